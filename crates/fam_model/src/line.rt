@@ -6,7 +6,7 @@ use fam_base::Who;
 
 /// A line of a script: its first one, the two ends of a program, a statement, the two ends of a repeat,
 /// or its last one.
-#[derive(Debug, Drop)]
+#[derive(Drop)]
 pub enum Line {
     Service(Service),
     Pe(Who),

@@ -6,7 +6,7 @@ use crate::rows::Rows;
 use fam_base::{PeId, Sequence};
 
 /// The reply to a call of a program.
-#[derive(Debug, Drop)]
+#[derive(Drop)]
 pub struct ReplyLine {
     pub pe: PeId,
     pub call: u64,
@@ -14,7 +14,7 @@ pub struct ReplyLine {
 }
 
 /// The replies of a run, the directory before it, and its events.
-#[derive(Debug, Drop)]
+#[derive(Drop)]
 pub struct Report {
     pub replies: Sequence<ReplyLine>,
     pub rows: Rows,
