@@ -1,0 +1,9 @@
+pub mod Calls
+pub mod OnePiece
+pub mod Placing
+pub mod Ends
+pub mod Follows
+pub mod Runs
+pub mod Stepping
+pub mod Turns
+pub mod Whole

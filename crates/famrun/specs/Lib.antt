@@ -1,0 +1,4 @@
+pub mod Form
+pub mod Playing
+pub mod Running
+pub mod Standing

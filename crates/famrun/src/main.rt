@@ -1,0 +1,4 @@
+//! famrun.
+#![tactic(auto)]
+
+fn main() {}
