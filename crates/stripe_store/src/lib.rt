@@ -1,0 +1,8 @@
+//! The bytes of a stripe, by region, row and place in the row.
+#![tactic(auto)]
+
+mod row;
+mod rows;
+mod store;
+
+pub use store::Store;
