@@ -51,10 +51,10 @@ turned a b = (eq_by_cmp_equiv nat_cmp_total).symm a b
 pub one_changed : (old new : Entries) (region : RegionId) (rows : List (List ℕ)) → ((q : RegionId) → rows_at new q ≡ cond (is_at (by_number region) q) rows (rows_at old q)) → kept_of new ≡ with_rows (kept_of old) region.0 rows
 one_changed old new region rows changed =
     same_kept (kept_of new) (with_rows (kept_of old) region.0 rows) (tidy-kept_of new) (tidy-with_rows (kept_of old) region.0 rows (tidy-kept_of old)) (λ q.
-        let at : RegionId = record { 0 = q } in
-        rows_of-kept_of new at ∙ changed at ∙ ap (λ b. cond b rows (rows_at old at)) (turned region.0 q)
-        ∙ ap (cond (eq_by_cmp nat_cmp q region.0) rows) (sym (rows_of-kept_of old at))
-        ∙ sym (rows_of-with_rows (kept_of old) region.0 rows q))
+    let at : RegionId = record { 0 = q } in
+    rows_of-kept_of new at ∙ changed at ∙ ap (λ b. cond b rows (rows_at old at)) (turned region.0 q)
+    ∙ ap (cond (eq_by_cmp nat_cmp q region.0) rows) (sym (rows_of-kept_of old at))
+    ∙ sym (rows_of-with_rows (kept_of old) region.0 rows q))
 
 rows_where : (b : Bool) (w o : Option (List (List ℕ))) → unwrap_or (cond b w o) [] ≡ cond b (unwrap_or w []) (unwrap_or o [])
 rows_where true w o = refl

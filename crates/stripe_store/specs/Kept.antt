@@ -1,5 +1,5 @@
 -- What a store holds: the rows of each region that has any.
-use Rattle.std.specs.Prelude.{ℕ, List, [], ◌∷◌, Option, slice_get, slice_set, unwrap_or}
+use Rattle.std.specs.Prelude.{ℕ, List, [], ◌∷◌, slice_set, unwrap_or}
 use Rattle.std.specs.Ordering.{nat_cmp}
 use Rattle.std.specs.FinMap.{FinMap, empty, get, insert, remove}
 use Rattle.std.specs.Coded.{Coded, coded_ℕ, coded_list}
@@ -19,9 +19,9 @@ coded_kept = map.code coded_ℕ (coded_list (coded_list coded_ℕ))
 abbrev pub rows_of : Kept → ℕ → List (List ℕ)
 rows_of kept region = unwrap_or (get kept region) []
 
--- one row of a region, if it is there
-abbrev pub row_of : Kept → ℕ → ℕ → Option (List ℕ)
-row_of kept region row = slice_get (rows_of kept region) row
+-- the bytes of a row; none where the row is not there
+abbrev pub row_of : Kept → ℕ → ℕ → List ℕ
+row_of kept region row = bytes_of (rows_of kept region) row
 
 -- the same but for the rows of one region; with no rows the region is not there
 abbrev pub with_rows : Kept → ℕ → List (List ℕ) → Kept

@@ -4,5 +4,7 @@
 mod row;
 mod rows;
 mod store;
+#[cfg(test)]
+mod tests;
 
 pub use store::Store;

@@ -32,6 +32,13 @@ impl Row {
         }
     }
 
+    /// How many bytes there are.
+    pub(crate) fn len(&self) -> usize
+        ensures { result ≡ length self.now }
+    {
+        self.bytes.len()
+    }
+
     /// Fills `into` with the bytes from `at` on.
     pub(crate) fn read(&self, at: usize, into: &mut [u8])
         requires { at + length into.old ≤ length self.now }

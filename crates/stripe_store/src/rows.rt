@@ -1,6 +1,6 @@
 //! The rows of one region.
 
-ghost use Rattle.std.specs.Prelude.{◌≡◌, ◌+◌, length, take, replicate, slice_range, slice_set, IfOk, OnOk, OnErr};
+ghost use Rattle.std.specs.Prelude.{◌≡◌, ◌↔◌, ◌+◌, length, take, replicate, slice_range, slice_set, IsTrue, IfOk, OnOk, OnErr};
 ghost use Rattle.stripe_store.specs.Rows.{bytes_of, Reaches, overwritten, zeros, grown};
 
 use crate::row::Row;
@@ -45,6 +45,16 @@ impl Rows {
     {
         let rows = zero_rows(alloc, count as usize, unit as usize)?;
         Ok(Rows { rows })
+    }
+
+    /// Whether `n` bytes from `at` on lie inside a row.
+    pub(crate) fn reaches(&self, row: u64, at: u32, n: u32) -> bool
+        ensures { IsTrue result ↔ Reaches self.now row at n }
+    {
+        match self.rows.get(row as usize) {
+            Some(bytes) => at as usize + n as usize <= bytes.len(),
+            None => false,
+        }
     }
 
     /// Adds rows of `unit` zeros until there are at least `count` rows.

@@ -1,8 +1,8 @@
 //! The rows of every region.
 
-ghost use Rattle.std.specs.Prelude.{◌≡◌, ◌+◌, length, take, [], slice_range, OnOk, OnErr};
+ghost use Rattle.std.specs.Prelude.{◌≡◌, ◌↔◌, ◌+◌, length, take, [], slice_range, IsTrue, OnOk, OnErr};
 ghost use Rattle.std.specs.FinMap as map;
-ghost use Rattle.stripe_store.specs.Rows.{bytes_of, Reaches, overwritten, zeros, grown};
+ghost use Rattle.stripe_store.specs.Rows.{Reaches, overwritten, zeros, grown};
 
 use crate::rows::Rows;
 use fam_base::{NoMemory, RegionId};
@@ -28,7 +28,7 @@ impl Model for Store {
 }
 
 impl Store {
-    ghost use Rattle.stripe_store.specs.Kept.{rows_of, with_rows, with_row};
+    ghost use Rattle.stripe_store.specs.Kept.{rows_of, row_of, with_rows, with_row};
 
     /// No region has rows.
     pub fn new(alloc: Global) -> Store
@@ -72,10 +72,20 @@ impl Store {
         self.regions.remove(&region);
     }
 
+    /// Whether `n` bytes from byte `at` on lie inside a row of the region.
+    pub fn reaches(&self, region: RegionId, row: u64, at: u32, n: u32) -> bool
+        ensures { IsTrue result ↔ Reaches (rows_of self.now region.0) row at n }
+    {
+        match self.regions.get(&region) {
+            Some(there) => there.reaches(row, at, n),
+            None => false,
+        }
+    }
+
     /// Fills `into` with the bytes of a row from byte `at` on.
     pub fn read(&self, region: RegionId, row: u64, at: u32, into: &mut [u8])
         requires { Reaches (rows_of self.now region.0) row at (length into.old) }
-        ensures { into.new ≡ slice_range (bytes_of (rows_of self.now region.0) row) at (at + length into.old) }
+        ensures { into.new ≡ slice_range (row_of self.now region.0 row) at (at + length into.old) }
     {
         if let Some(there) = self.regions.get(&region) {
             there.read(row, at, into);
@@ -85,7 +95,7 @@ impl Store {
     /// Puts the bytes of `from` into a row, from byte `at` on.
     pub fn write(&mut self, region: RegionId, row: u64, at: u32, from: &[u8])
         requires { Reaches (rows_of self.old region.0) row at (length from.now) }
-        ensures { self.new ≡ with_row self.old region.0 row (overwritten (bytes_of (rows_of self.old region.0) row) at from.now) }
+        ensures { self.new ≡ with_row self.old region.0 row (overwritten (row_of self.old region.0 row) at from.now) }
     {
         if let Some(there) = self.regions.get_mut(&region) {
             there.write(row, at, from);
@@ -95,7 +105,7 @@ impl Store {
     /// Puts `n` zeros into a row, from byte `at` on.
     pub fn zero(&mut self, region: RegionId, row: u64, at: u32, n: u32)
         requires { Reaches (rows_of self.old region.0) row at n }
-        ensures { self.new ≡ with_row self.old region.0 row (overwritten (bytes_of (rows_of self.old region.0) row) at (zeros n)) }
+        ensures { self.new ≡ with_row self.old region.0 row (overwritten (row_of self.old region.0 row) at (zeros n)) }
     {
         if let Some(there) = self.regions.get_mut(&region) {
             there.zero(row, at, n);

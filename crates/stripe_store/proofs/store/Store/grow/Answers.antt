@@ -1,4 +1,4 @@
-use Rattle.std.proofs.Common.{◌∙◌, ◌-◌, ap, sym, replicate}
+use Rattle.std.proofs.Common.{◌∙◌, ap, sym, replicate}
 use Rattle.std.proofs.Math.Nat.{sub-zero}
 use Rattle.std.proofs.lemmas.Result.{on_ok_weaker, on_err_weaker}
 use Rattle.stripe_store.specs.Rows.{grown, zeros}

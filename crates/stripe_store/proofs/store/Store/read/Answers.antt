@@ -1,4 +1,4 @@
-use Rattle.std.proofs.Common.{◌+◌, ap, subst, sym, ◌∙◌, length, slice_range}
+use Rattle.std.proofs.Common.{◌+◌, ◌<◌, ap, subst, sym, ◌∙◌, length, slice_range, arith}
 use Rattle.stripe_store.specs.Rows.{bytes_of, Reaches}
 use Rattle.stripe_store.proofs.Entries.{rows_found, rows_not_found}
 use Rattle.stripe_store.proofs.store.Store.read.Goals as goal
@@ -14,4 +14,5 @@ returns-in-Some c =
 
 pub returns-in_default : goal.returns-in_default
 returns-in_default c =
-    absurd (subst (λ rows. Reaches rows c.args.row c.args.at (length c.args.into.now)) (rows_not_found c.args.self.now c.self.inside.regions c.args.region c.self.view_is c.in_default.ensures.value) c.requires)
+    let none = subst (λ rows. c.args.row < length rows) (rows_not_found c.args.self.now c.self.inside.regions c.args.region c.self.view_is c.in_default.ensures.value) c.requires.0 in
+    absurd (omega (arith, none))
