@@ -1,6 +1,6 @@
 //! The rows of one region.
 
-ghost use Rattle.std.specs.Prelude.{◌≡◌, ◌↔◌, ◌+◌, length, take, replicate, slice_range, slice_set, IsTrue, IfOk, OnOk, OnErr};
+ghost use Rattle.std.specs.Prelude.{◌≡◌, ◌↔◌, ◌+◌, ◌≤◌, length, take, replicate, slice_range, slice_set, IsTrue, IsOk, IfOk, OnOk, OnErr};
 ghost use Rattle.stripe_store.specs.Rows.{bytes_of, Reaches, overwritten, zeros, grown};
 
 use crate::row::Row;
@@ -57,12 +57,16 @@ impl Rows {
         }
     }
 
-    /// Adds rows of `unit` zeros until there are at least `count` rows.
+    /// Adds rows of `unit` zeros until there are at least `count` rows. It takes memory only for those.
     pub(crate) fn grow(&mut self, alloc: Global, count: u64, unit: u32) -> Result<(), NoMemory>
         ensures ok { OnOk result (self.new ≡ grown self.old count unit) }
         ensures err { OnErr result (self.new ≡ self.old) }
+        ensures enough { count ≤ length self.old → IsOk result }
     {
         let missing = (count as usize).saturating_sub(self.rows.len());
+        if missing == 0 {
+            return Ok(());
+        }
         let mut added = zero_rows(alloc, missing, unit as usize)?;
         match self.rows.append(&mut added) {
             Ok(()) => Ok(()),

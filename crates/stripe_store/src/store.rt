@@ -1,6 +1,6 @@
 //! The rows of every region.
 
-ghost use Rattle.std.specs.Prelude.{◌≡◌, ◌↔◌, ◌+◌, length, take, [], slice_range, IsTrue, OnOk, OnErr};
+ghost use Rattle.std.specs.Prelude.{◌≡◌, ◌↔◌, ◌+◌, ◌≤◌, length, take, [], slice_range, IsTrue, IsOk, OnOk, OnErr};
 ghost use Rattle.std.specs.FinMap as map;
 ghost use Rattle.stripe_store.specs.Rows.{Reaches, overwritten, zeros, grown};
 
@@ -41,13 +41,18 @@ impl Store {
     }
 
     /// Adds rows of `unit` zero bytes each until the region has at least `rows` rows. The rows that
-    /// were there stay as they were, and after an error everything is as before.
+    /// were there stay as they were, and after an error everything is as before. Where there are
+    /// enough rows already, no memory is needed.
     pub fn grow(&mut self, region: RegionId, rows: u64, unit: u32) -> Result<(), NoMemory>
         ensures ok { OnOk result (self.new ≡ with_rows self.old region.0 (grown (rows_of self.old region.0) rows unit)) }
         ensures err { OnErr result (self.new ≡ self.old) }
+        ensures enough { rows ≤ length (rows_of self.old region.0) → IsOk result }
     {
         if let Some(there) = self.regions.get_mut(&region) {
             return there.grow(self.alloc, rows, unit);
+        }
+        if rows == 0 {
+            return Ok(());
         }
         let fresh = Rows::zeroed(self.alloc, rows, unit)?;
         match self.regions.insert(region, fresh) {
