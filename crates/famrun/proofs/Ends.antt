@@ -37,7 +37,7 @@ use Rattle.fam_model.specs.Step.{step}
 use Rattle.fam_model.specs.Text.{Asked, Once, written_out, follows, follows_after, next_of, next_call}
 use Rattle.famrun.specs.Form.{is_played, is_played_service, is_played_program, is_played_statement}
 use Rattle.famrun.specs.Playing.{call_of, event_of}
-use Rattle.famrun.specs.Running.{HasRun, asked, is_calm, op_of, ops_of, replies_of, line_of, lines_from}
+use Rattle.famrun.specs.Running.{HasRun, EndsRun, asked, is_calm, op_of, ops_of, replies_of, line_of, lines_from}
 use Rattle.famrun.specs.Standing.{one_stripe, start, Done, program_with, state_with, AllAnswered}
 use Rattle.famrun.proofs.Follows.{turns_played, follows_on, next_leaves, and_both, same_call_twice}
 use Rattle.famrun.proofs.Placing.{equal}
@@ -175,12 +175,6 @@ leaves : (program : Program) (ops : List DataOp) (replies : List Reply) → flat
 leaves program ops replies text count =
     let next : next_call program replies ≡ Some call.Leave = ap (λ turns. next_of turns replies) text ∙ next_leaves ops replies count in
     rw next refl
-
--- a run that has ended: its history, and the reply lines of its report
-pub record EndsRun (script : Script) (history : List Event) (lines : List ReplyLine) : Type 0 where
-  pub run : IsRun common_rows script history
-  pub ended : HasEnded common_rows script history
-  pub replies : lines ≡ reply_lines (length script.programs) history
 
 lines_whole : (script : Script) (program : Program) (history : List Event) (lines : List ReplyLine) (ops : List DataOp) (n : ℕ) → script.programs ≡ program ∷ [] →
     calls history 0 ≡ asked ops (replies_of lines) ++ (call.Leave, Some reply.Left) ∷ [] → lines ≡ lines_from 0 (replies_of lines) →

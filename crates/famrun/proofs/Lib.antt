@@ -3,6 +3,8 @@ pub mod OnePiece
 pub mod Placing
 pub mod Ends
 pub mod Follows
+pub mod Joined
+pub mod Plays
 pub mod Runs
 pub mod Stepping
 pub mod Turns

@@ -1,4 +1,5 @@
 pub mod Form
+pub mod Item
 pub mod Playing
 pub mod Running
 pub mod Standing

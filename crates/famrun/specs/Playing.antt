@@ -1,5 +1,5 @@
 -- What the player makes of one call. A reader need not believe it: what a run has to be is said by the machine.
-use Rattle.std.specs.Prelude.{ℕ, ◌+◌, Bool, true, ◌==◌, ◌||◌, List, [], ◌∷◌, ◌++◌, slice_range, if◌then◌else◌}
+use Rattle.std.specs.Prelude.{◌≡◌, ℕ, ◌+◌, Bool, true, ◌==◌, ◌||◌, List, [], ◌∷◌, ◌++◌, slice_range, if◌then◌else◌}
 use Rattle.fam_base.specs.declared.error.FamError.TheVariants.{Range}
 use Rattle.fam_model.specs.declared.call.Call.{Call}
 use Rattle.fam_model.specs.declared.call.Call.TheVariants as call
@@ -23,6 +23,11 @@ event_of n what = record { pe = record { 0 = 0 }; call = n; what = what }
 -- a call that waits, on the first context
 abbrev pub call_of : DataOp → Call
 call_of op = call.Data 0 op true
+
+-- what a call moves; a call that is not played moves nothing
+abbrev pub op_made : Call → DataOp
+op_made (call.Data context op blocking) = op
+op_made _ = data_op.Get 0 0 0
 
 -- where its range begins
 abbrev pub offset_of : DataOp → ℕ
@@ -70,3 +75,8 @@ put_into _ bytes = bytes
 -- the item's bytes after it
 abbrev pub bytes_after : DataOp → List ℕ → List ℕ
 bytes_after op bytes = if is_out op || moved op == 0 then bytes else put_into op bytes
+
+-- a call's events and reply are these
+pub record IsTurn (events : List Event) (given : Reply) (n : ℕ) (op : DataOp) (bytes : List ℕ) : Type 0 where
+  pub events_are : events ≡ turn_events n op bytes
+  pub reply_is : given ≡ reply_to op bytes

@@ -2,24 +2,27 @@
 use Rattle.std.specs.Prelude.{◌≡◌, ℕ, ◌+◌, ◌≤◌, Bool, true, List, [], ◌∷◌, ◌++◌, length, map, is_none, Some, None}
 use Rattle.std.specs.List.{list_all}
 use Rattle.fam_base.specs.declared.naming.Who.{Who}
-use Rattle.fam_model.specs.declared.call.Call.TheVariants as call
 use Rattle.fam_model.specs.declared.call.DataOp.{DataOp}
 use Rattle.fam_model.specs.declared.call.DataOp.TheVariants as data_op
 use Rattle.fam_model.specs.declared.event.Event.{Event}
 use Rattle.fam_model.specs.declared.reply.Reply.{Reply}
 use Rattle.fam_model.specs.declared.report.ReplyLine.{ReplyLine}
+use Rattle.fam_model.specs.declared.script.Script.{Script}
 use Rattle.fam_model.specs.declared.script.Statement.{Statement, One}
 use Rattle.fam_model.specs.declared.state.Started.TheVariants as started
 use Rattle.fam_model.specs.Earned.{error_of}
+use Rattle.fam_model.specs.Headline.{IsRun, HasEnded}
 use Rattle.fam_model.specs.History.{state_after, calls}
 use Rattle.fam_model.specs.Limits.{service_limits}
+use Rattle.fam_model.specs.ReportText.{reply_lines}
+use Rattle.fam_model.specs.Rows.{common_rows}
 use Rattle.fam_model.specs.Text.{Asked}
-use Rattle.famrun.specs.Playing.{call_of}
+use Rattle.famrun.specs.Playing.{call_of, op_made}
 use Rattle.famrun.specs.Standing.{Done, StandsBefore, start, state_with}
 
 -- what a statement moves; a statement that is not played moves nothing
 abbrev pub op_of : Statement → DataOp
-op_of (One (call.Data context op blocking)) = op
+op_of (One asked) = op_made asked
 op_of _ = data_op.Get 0 0 0
 
 -- what the statements of a program move, in order
@@ -63,3 +66,9 @@ pub record HasRun (who : Who) (ops : List DataOp) (history : List Event) (lines 
   pub calm : list_all is_calm history ≡ true
   pub count : length (replies_of lines) ≡ length ops
   pub numbers : lines ≡ lines_from 0 (replies_of lines)
+
+-- a run that has ended: its history, and the reply lines of its report
+pub record EndsRun (script : Script) (history : List Event) (lines : List ReplyLine) : Type 0 where
+  pub run : IsRun common_rows script history
+  pub ended : HasEnded common_rows script history
+  pub replies : lines ≡ reply_lines (length script.programs) history

@@ -1,4 +1,8 @@
 //! famrun.
 #![tactic(auto)]
 
+mod item;
+mod play;
+mod turn;
+
 fn main() {}
