@@ -1,0 +1,19 @@
+//! Sources and sinks of bytes, whose calls may fail: traits, forms in memory, and std's readers and writers.
+#![tactic(auto)]
+
+mod calls;
+mod link;
+mod memory_link;
+mod memory_sink;
+mod memory_source;
+mod sink;
+mod source;
+mod whole;
+
+pub use link::Link;
+pub use memory_link::MemLink;
+pub use memory_sink::MemSink;
+pub use memory_source::MemSource;
+pub use sink::Sink;
+pub use source::Source;
+pub use whole::{ReadFault, read_all, write_all};
