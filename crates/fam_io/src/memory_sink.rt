@@ -25,10 +25,10 @@ impl Model for MemSink {
     ghost Value = { MemorySink };
 
     ghost view = { λ s. record {
-        written = s.bytes.items;
-        failing = s.writes.failing;
-        calls = s.writes.made;
-        faults = s.writes.faults;
+      written = s.bytes.items;
+      failing = s.writes.failing;
+      calls = s.writes.made;
+      faults = s.writes.faults;
     } };
 }
 

@@ -26,11 +26,11 @@ impl Model for MemSource {
     ghost Value = { MemorySource };
 
     ghost view = { λ s. record {
-        taken = take s.at s.bytes;
-        left = drop s.at s.bytes;
-        failing = s.reads.failing;
-        calls = s.reads.made;
-        faults = s.reads.faults;
+      taken = take s.at s.bytes;
+      left = drop s.at s.bytes;
+      failing = s.reads.failing;
+      calls = s.reads.made;
+      faults = s.reads.faults;
     } };
 
     ghost invariant = { λ s. s.at ≤ length s.bytes };

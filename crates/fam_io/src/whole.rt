@@ -3,6 +3,7 @@
 ghost use Rattle.std.specs.Prelude.{◌≡◌, ◌≢◌, ℕ, List, ◌++◌, ◌+◌, ◌^◌, ◌<◌, ◌≤◌, length, OnOk, OnErr, IfOk, IfErr, IfSome, IsErrOf};
 ghost use Rattle.std.specs.Io.KnownBytes.{Appends, IsAtEnd};
 ghost use Rattle.fam_base.specs.Causes.{HasCause, Rose};
+ghost use Rattle.fam_io.specs.Whole.{IsAnswer};
 ghost use Rattle.fam_io.specs.State.{AddsPrefix, Moves, MovesExactly, MovesUpTo};
 
 use crate::sink::Sink;
@@ -45,15 +46,14 @@ const ROOM: usize = 65_536;
 /// Reads to the end of input, at most `limit` bytes, and one more to see whether there are more.
 ///
 /// After an error what was read is lost.
-pub fn read_all<S: Source>(
-    alloc: Global,
-    input: &mut S,
-    limit: usize,
-) -> Result<Vec<u8>, ReadFault>
+pub fn read_all<S: Source>(alloc: Global, input: &mut S, limit: usize) -> Result<Vec<u8>, ReadFault>
     requires { limit < 2 ^ 63 }
     ensures all { IfOk result (λ bytes. Moves (S.source input.old) (S.source input.new) bytes.items) }
     ensures end { OnOk result (IsAtEnd (S.source input.new).left) }
     ensures within { IfOk result (λ bytes. length bytes.items ≤ limit) }
+    ensures whole { IfOk result (λ bytes. IfSome (S.source input.old).left (λ left. bytes.items ≡ left)) }
+    ensures answer { IfSome (S.source input.old).left (λ left.
+        ¬ Rose (S.source input.old).faults (S.source input.new).faults → IsAnswer limit left result) }
     ensures too_long { IsErrOf result ReadFault.TooLong → MovesExactly (S.source input.old) (S.source input.new) (limit + 1) }
     ensures failed { IsErrOf result ReadFault.Failed → Rose (S.source input.old).faults (S.source input.new).faults }
     ensures lost { MovesUpTo (S.source input.old) (S.source input.new) (limit + 1) }
