@@ -1,5 +1,5 @@
 -- A call again, after calls that changed nothing.
-use Rattle.std.proofs.Common.{◌≡◌, ℕ, List, [], ◌++◌, take, refl, sym, ap, ◌∙◌}
+use Rattle.std.proofs.Common.{ℕ, List, ◌++◌, take, refl, sym, ap, ◌∙◌}
 use Rattle.std.specs.Prelude.{Option, None, Some}
 use Rattle.std.proofs.lemmas.List.{append-nil}
 use Rattle.std.specs.Io.KnownBytes.{Appends, Consumes, Keeps}
@@ -30,3 +30,6 @@ pub keeps_at_none : (a b : Option (List ℕ)) (piece : List ℕ) → Appends a b
 keeps_at_none None b piece p = tt
 keeps_at_none (Some x) None piece p = absurd p
 keeps_at_none (Some x) (Some y) piece p = p ∙ append-nil x
+
+-- a call again, for the tactics
+pub ruleset again = (keeps_itself, keeps_on, keeps_consumes, keeps_appends, keeps_at_none)

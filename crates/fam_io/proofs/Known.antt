@@ -1,10 +1,10 @@
 -- One read or write after another.
-use Rattle.std.proofs.Common.{◌≡◌, ℕ, ◌+◌, ◌<◌, ◌≤◌, List, [], ◌∷◌, ◌++◌, length, take, drop, refl, sym, ap, ◌∙◌, subst, arith, append_assoc, length-append}
-use Rattle.std.specs.Prelude.{Option, None, Some, IfSome}
+use Rattle.std.proofs.Common.{ℕ, ◌+◌, List, [], ◌++◌, take, drop, refl, sym, ap, ◌∙◌, subst, append_assoc}
+use Rattle.std.specs.Prelude.{Option, None, Some}
 use Rattle.std.proofs.lemmas.List.{append-nil}
 use Rattle.std.proofs.Math.Seq.{take-add}
-use Rattle.std.specs.Io.KnownBytes.{Appends, Consumes, IsAtEnd}
-use Rattle.fam_io.specs.State.{SourceState, SinkState, Moves, MovesUpTo, MovesExactly, AddsPrefix}
+use Rattle.std.specs.Io.KnownBytes.{Appends, Consumes}
+use Rattle.fam_io.specs.State.{SourceState, Moves}
 
 pub Consumes-nil : (a : Option (List ℕ)) → Consumes a a []
 Consumes-nil None = tt

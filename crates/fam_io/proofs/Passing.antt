@@ -1,9 +1,9 @@
 -- What a loop has done so far, and what it has done after one more call.
-use Rattle.std.proofs.Common.{◌≡◌, ℕ, ◌+◌, ◌<◌, ◌≤◌, List, [], ◌++◌, length, take, drop, sym, ap, ◌∙◌, subst, arith, length-append, length-drop}
+use Rattle.std.proofs.Common.{◌≡◌, ℕ, ◌+◌, ◌≤◌, List, ◌++◌, length, take, drop, sym, ap, subst, arith, length-append, length-drop}
 use Rattle.std.specs.Prelude.{Result, Ok, Err, OnErr}
 use Rattle.std.specs.Io.KnownBytes.{Appends}
 use Rattle.fam_io.specs.State.{SourceState, SinkState, AddsPrefix, Moves, MovesUpTo}
-use Rattle.fam_io.proofs.Known.{Appends-nil, Appends-rest, Moves-nil, Moves-trans}
+use Rattle.fam_io.proofs.Known.{Appends-rest, Moves-trans}
 
 -- the first of these bytes were written
 pub record HasWritten (old new : SinkState) (bytes : List ℕ) (count : ℕ) : Type 0 where

@@ -8,7 +8,7 @@ use fam_base::{Failed, Places};
 
 /// The calls of one kind: which fail, how many were made, and how many failed.
 #[derive(Debug, Drop)]
-pub struct Calls {
+pub(crate) struct Calls {
     pub(crate) failing: Places,
     pub(crate) made: u64,
     pub(crate) faults: u64,

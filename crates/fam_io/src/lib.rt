@@ -1,4 +1,5 @@
-//! Sources and sinks of bytes, whose calls may fail: traits, forms in memory, and std's readers and writers.
+//! Sources and sinks of bytes, whose calls may fail: the traits, forms in memory, and std's readers
+//! and writers.
 #![tactic(auto)]
 
 mod calls;

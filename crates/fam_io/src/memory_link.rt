@@ -1,6 +1,6 @@
 //! A link in memory.
 
-ghost use Rattle.std.specs.Prelude.{◌≡◌, ◌+◌, ◌^◌, ◌-◌, ◌++◌, min, take, drop, length, true, [], is_err, IfOk, OnErr, IsTrue};
+ghost use Rattle.std.specs.Prelude.{◌≡◌, ◌++◌, min, take, drop, length, [], is_err, IsErr, OnOk, IfOk, OnErr, IsTrue};
 ghost use Rattle.fam_base.specs.Causes.{HasCause};
 ghost use Rattle.fam_io.specs.Calls.{fails_next, piece_of};
 ghost use Rattle.fam_io.specs.Memory.{after_read, after_failed_read, after_write, after_failed_write, told_source, told_sink};
@@ -18,15 +18,16 @@ use std::alloc::Global;
 pub struct MemLink {
     /// What is read of it.
     pub input: MemSource,
-    /// How many bytes each read may give. A 0 counts as 1, the last number is for all later reads, and
-    /// an empty list sets no bound.
+    /// How many bytes each read may give. A 0 counts as 1, the last number is for all later reads,
+    /// and an empty list sets no bound.
     pub pieces: Places,
     /// What is written to it.
     pub output: MemSink,
 }
 
 impl MemLink {
-    /// This input, and no output yet. The reads and the writes that the lists number fail, counted from 1.
+    /// This input, and no output yet. The reads and the writes that the lists number fail, counted
+    /// from 1.
     pub fn new(
         alloc: Global,
         input: Bytes,
@@ -34,9 +35,11 @@ impl MemLink {
         failing_reads: Places,
         failing_writes: Places,
     ) -> MemLink
-        ensures input { result.input ≡ record { taken = []; left = input; failing = failing_reads; calls = 0; faults = 0 } }
+        ensures input { result.input
+            ≡ record { taken = []; left = input; failing = failing_reads; calls = 0; faults = 0 } }
         ensures pieces { result.pieces ≡ pieces }
-        ensures output { result.output ≡ record { written = []; failing = failing_writes; calls = 0; faults = 0 } }
+        ensures output { result.output
+            ≡ record { written = []; failing = failing_writes; calls = 0; faults = 0 } }
     {
         MemLink {
             input: MemSource::new(input, failing_reads),
@@ -68,10 +71,14 @@ impl Source for MemLink {
     /// Only the reads that the list numbers fail.
     fn read(&mut self, into: &mut [u8]) -> Result<usize, Failed>
         ensures fails { is_err result ≡ fails_next self.old.input.failing self.old.input.calls }
-        ensures count { IfOk result (λ n. n ≡ min (piece_of self.old.pieces self.old.input.calls) (min (length into.old) (length self.old.input.left))) }
-        ensures given { IfOk result (λ n. into.new ≡ take n self.old.input.left ++ drop n into.old) }
-        ensures read { IfOk result (λ n. self.new ≡ record self.old { input = after_read self.old.input n }) }
-        ensures failed { OnErr result (self.new ≡ record self.old { input = after_failed_read self.old.input }) }
+        ensures count { IfOk result (λ n. n ≡ min (piece_of self.old.pieces self.old.input.calls)
+            (min (length into.old) (length self.old.input.left))) }
+        ensures given { IfOk result (λ n.
+            into.new ≡ take n self.old.input.left ++ drop n into.old) }
+        ensures read { IfOk result (λ n.
+            self.new ≡ record self.old { input = after_read self.old.input n }) }
+        ensures failed { OnErr result
+            (self.new ≡ record self.old { input = after_failed_read self.old.input }) }
         ensures untouched { OnErr result (into.new ≡ into.old) }
         ensures cause { HasCause self.old.input.faults self.new.input.faults result }
     {
@@ -91,12 +98,16 @@ impl Sink for MemLink {
 
     ghost source_beside = { λ link. told_source link.input };
 
-    /// Takes all of the piece. Besides the writes that the list numbers, one fails where memory is wanting.
+    /// Takes all of the piece. Besides the writes that the list numbers, one fails where memory is
+    /// wanting.
     fn write(&mut self, from: &[u8]) -> Result<usize, Failed>
-        ensures fails { IsTrue (fails_next self.old.output.failing self.old.output.calls) → is_err result ≡ true }
+        ensures fails { IsTrue (fails_next self.old.output.failing self.old.output.calls)
+            → IsErr result }
         ensures bytes { IfOk result (λ n. n ≡ length from.now) }
-        ensures written { IfOk result (λ n. self.new ≡ record self.old { output = after_write self.old.output from.now }) }
-        ensures failed { OnErr result (self.new ≡ record self.old { output = after_failed_write self.old.output }) }
+        ensures written { OnOk result
+            (self.new ≡ record self.old { output = after_write self.old.output from.now }) }
+        ensures failed { OnErr result
+            (self.new ≡ record self.old { output = after_failed_write self.old.output }) }
         ensures cause { HasCause self.old.output.faults self.new.output.faults result }
     {
         self.output.write(from)

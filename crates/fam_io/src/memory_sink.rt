@@ -1,7 +1,6 @@
 //! A sink in memory.
 
-ghost use Rattle.std.specs.Prelude.{◌≡◌, ◌<◌, ◌++◌, length, take, true, [], is_err, IfOk, OnErr, IsTrue};
-ghost use Rattle.std.specs.Io.{WritesAtMost};
+ghost use Rattle.std.specs.Prelude.{◌≡◌, length, [], IsErr, OnOk, IfOk, OnErr, IsTrue};
 ghost use Rattle.fam_base.specs.Causes.{HasCause};
 ghost use Rattle.fam_io.specs.Calls.{fails_next};
 ghost use Rattle.fam_io.specs.Memory.{MemorySink, after_write, after_failed_write, told_sink};
@@ -62,11 +61,12 @@ impl MemSink {
 impl Sink for MemSink {
     ghost sink = { told_sink };
 
-    /// Takes all of the piece. Besides the writes that the list numbers, one fails where memory is wanting.
+    /// Takes all of the piece. Besides the writes that the list numbers, one fails where memory is
+    /// wanting.
     fn write(&mut self, from: &[u8]) -> Result<usize, Failed>
-        ensures fails { IsTrue (fails_next self.old.failing self.old.calls) → is_err result ≡ true }
+        ensures fails { IsTrue (fails_next self.old.failing self.old.calls) → IsErr result }
         ensures bytes { IfOk result (λ n. n ≡ length from.now) }
-        ensures written { IfOk result (λ n. self.new ≡ after_write self.old from.now) }
+        ensures written { OnOk result (self.new ≡ after_write self.old from.now) }
         ensures failed { OnErr result (self.new ≡ after_failed_write self.old) }
         ensures cause { HasCause self.old.faults self.new.faults result }
     {

@@ -1,7 +1,6 @@
 //! A source in memory.
 
-ghost use Rattle.std.specs.Prelude.{◌≡◌, ◌<◌, ◌^◌, ◌-◌, ◌++◌, min, take, drop, length, is_err, [], IfOk, OnErr};
-ghost use Rattle.std.specs.Io.{ReadsAtMost};
+ghost use Rattle.std.specs.Prelude.{◌≡◌, ◌++◌, min, take, drop, length, is_err, [], IfOk, OnErr};
 ghost use Rattle.fam_base.specs.Causes.{HasCause};
 ghost use Rattle.fam_io.specs.Calls.{fails_next};
 ghost use Rattle.fam_io.specs.Memory.{MemorySource, after_read, after_failed_read, told_source};
@@ -39,7 +38,8 @@ impl Model for MemSource {
 impl MemSource {
     /// These bytes. The reads that the list numbers fail, counted from 1.
     pub fn new(bytes: Bytes, failing: Places) -> MemSource
-        ensures { result ≡ record { taken = []; left = bytes; failing = failing; calls = 0; faults = 0 } }
+        ensures { result
+            ≡ record { taken = []; left = bytes; failing = failing; calls = 0; faults = 0 } }
     {
         MemSource {
             bytes,
@@ -72,7 +72,8 @@ impl MemSource {
     /// Gives as many bytes as there is room, as are left and as are allowed.
     pub fn read_at_most(&mut self, into: &mut [u8], most: usize) -> Result<usize, Failed>
         ensures fails { is_err result ≡ fails_next self.old.failing self.old.calls }
-        ensures count { IfOk result (λ n. n ≡ min most (min (length into.old) (length self.old.left))) }
+        ensures count { IfOk result (λ n.
+            n ≡ min most (min (length into.old) (length self.old.left))) }
         ensures given { IfOk result (λ n. into.new ≡ take n self.old.left ++ drop n into.old) }
         ensures read { IfOk result (λ n. self.new ≡ after_read self.old n) }
         ensures failed { OnErr result (self.new ≡ after_failed_read self.old) }
@@ -93,7 +94,8 @@ impl MemSource {
 impl Source for MemSource {
     ghost source = { told_source };
 
-    /// Gives as many bytes as there is room and as are left. Only the reads that the list numbers fail.
+    /// Gives as many bytes as there is room and as are left. Only the reads that the list numbers
+    /// fail.
     fn read(&mut self, into: &mut [u8]) -> Result<usize, Failed>
         ensures fails { is_err result ≡ fails_next self.old.failing self.old.calls }
         ensures count { IfOk result (λ n. n ≡ min (length into.old) (length self.old.left)) }

@@ -19,6 +19,7 @@ pub struct Reader<R> {
 }
 
 impl<R> Reader<R> {
+    /// A reader of which no read failed yet.
     pub fn new(inner: R) -> Reader<R>
         ensures { result ≡ record { inner = inner; faults = 0 } }
     {
@@ -45,11 +46,13 @@ impl<R: Read> Source for Reader<R> {
 }
 
 /// One read, again where a signal interrupts it.
-#[tactic(auto, using(crate::proofs::Again::keeps_itself, crate::proofs::Again::keeps_on, crate::proofs::Again::keeps_consumes))]
+#[tactic(auto, using(crate::proofs::Again::again))]
 fn read_once<R: Read>(reader: &mut R, into: &mut [u8]) -> io::Result<usize>
     ensures bound { ReadsAtMost result into.new }
-    ensures bytes { IfOk result (λ n. Consumes (R.remaining reader.old) (R.remaining reader.new) (take n into.new)) }
-    ensures end { IfOk result (λ n. n ≡ 0 → 0 < length into.old → IsAtEnd (R.remaining reader.new)) }
+    ensures bytes { IfOk result (λ n.
+        Consumes (R.remaining reader.old) (R.remaining reader.new) (take n into.new)) }
+    ensures end { IfOk result (λ n.
+        n ≡ 0 → 0 < length into.old → IsAtEnd (R.remaining reader.new)) }
     ensures lost { OnErr result (Keeps (R.remaining reader.old) (R.remaining reader.new)) }
 {
     for _ in 0..u64::MAX {

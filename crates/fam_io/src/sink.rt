@@ -20,7 +20,8 @@ pub trait Sink {
     fn write(&mut self, from: &[u8]) -> Result<usize, Failed>
         ensures bound { WritesAtMost result from.now }
         ensures some { IfOk result (λ n. 0 < length from.now → 0 < n) }
-        ensures bytes { IfOk result (λ n. Appends (sink self.old).written (sink self.new).written (take n from.now)) }
+        ensures bytes { IfOk result (λ n.
+            Appends (sink self.old).written (sink self.new).written (take n from.now)) }
         ensures lost { OnErr result (AddsPrefix (sink self.old) (sink self.new) from.now) }
         ensures cause { HasCause (sink self.old).faults (sink self.new).faults result }
         ensures beside { source_beside self.new ≡ source_beside self.old };

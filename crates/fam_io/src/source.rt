@@ -19,9 +19,12 @@ pub trait Source {
     /// A read that fails may have moved bytes from what is left to what was read.
     fn read(&mut self, into: &mut [u8]) -> Result<usize, Failed>
         ensures bound { ReadsAtMost result into.new }
-        ensures bytes { IfOk result (λ n. Moves (source self.old) (source self.new) (take n into.new)) }
-        ensures end { IfOk result (λ n. n ≡ 0 → 0 < length into.old → IsAtEnd (source self.new).left) }
-        ensures lost { OnErr result (MovesUpTo (source self.old) (source self.new) (length into.old)) }
+        ensures bytes { IfOk result (λ n.
+            Moves (source self.old) (source self.new) (take n into.new)) }
+        ensures end { IfOk result (λ n.
+            n ≡ 0 → 0 < length into.old → IsAtEnd (source self.new).left) }
+        ensures lost { OnErr result
+            (MovesUpTo (source self.old) (source self.new) (length into.old)) }
         ensures cause { HasCause (source self.old).faults (source self.new).faults result }
         ensures beside { sink_beside self.new ≡ sink_beside self.old };
 

@@ -10,11 +10,13 @@ use fam_base::{Bytes, Failed, NoMemory, Places};
 use std::alloc::Global;
 use std::io;
 use std::io::{ErrorKind, Read};
+use std::process::Abort;
 use std::test::Fail;
 
 /// Asks by the one way and reads by the other. What is read adds nothing to what was written.
 fn exchange<L: Link>(link: &mut L, request: &[u8], into: &mut [u8]) -> Result<usize, Failed>
-    ensures { OnOk result (Appends (L.sink link.old).written (L.sink link.new).written request.now) }
+    ensures { OnOk result
+        (Appends (L.sink link.old).written (L.sink link.new).written request.now) }
 {
     write_all(link, request)?;
     link.read(into)
@@ -56,39 +58,42 @@ impl Read for Broken {
     }
 }
 
+/// Reads an input whole. At `Ok` the bytes are the input, and else at most one too many was read.
+fn check_whole(
+    rt: &impl Abort,
+    alloc: Global,
+    link: &mut MemLink,
+    limit: usize,
+    input: &[u8],
+    wanted: Result<(), ReadFault>,
+) {
+    assert!(rt; limit < 1000);
+    match read_all(alloc, link, limit) {
+        Ok(bytes) => assert!(rt; bytes.as_slice() == input && wanted.is_ok()),
+        Err(fault) => assert!(rt; Err(fault) == wanted),
+    }
+    assert!(rt; link.input.taken().len() <= limit + 1);
+    let failed = wanted == Err(ReadFault::Failed);
+    assert!(rt; link.read_faults() == failed as u64);
+}
+
 #[test]
 fn reads_whole_inputs(rt: HostRuntime) -> Result<(), Fail> {
-    // The input's length, the limit, the pieces, the reads that fail, and what is wanted.
-    let table: [(usize, usize, &[u64], &[u64], Result<usize, ReadFault>); 9] = [
-        (0, 0, &[], &[], Ok(0)),
-        (1, 0, &[], &[], Err(ReadFault::TooLong)),
-        (10, 10, &[], &[], Ok(10)),
-        (11, 10, &[], &[], Err(ReadFault::TooLong)),
-        (10, 100, &[3, 0, 4], &[], Ok(10)),
-        (10, 9, &[0], &[], Err(ReadFault::TooLong)),
-        (10, 10, &[4], &[1], Err(ReadFault::Failed)),
-        (10, 10, &[4], &[3], Err(ReadFault::Failed)),
-        (10, 10, &[4], &[5], Ok(10)),
+    // The input, the limit, the pieces, the reads that fail, and what is wanted.
+    let table: [(&[u8], usize, &[u64], &[u64], Result<(), ReadFault>); 9] = [
+        (b"", 0, &[], &[], Ok(())),
+        (b"a", 0, &[], &[], Err(ReadFault::TooLong)),
+        (b"abcdefghij", 10, &[], &[], Ok(())),
+        (b"abcdefghijk", 10, &[], &[], Err(ReadFault::TooLong)),
+        (b"abcdefghij", 100, &[3, 0, 4], &[], Ok(())),
+        (b"abcdefghij", 9, &[0], &[], Err(ReadFault::TooLong)),
+        (b"abcdefghij", 10, &[4], &[1], Err(ReadFault::Failed)),
+        (b"abcdefghij", 10, &[4], &[3], Err(ReadFault::Failed)),
+        (b"abcdefghij", 10, &[4], &[5], Ok(())),
     ];
-    let input = b"abcdefghijklmnop";
-    for (length, limit, pieces, failing, wanted) in table {
-        assert!(rt; length <= input.len());
-        assert!(rt; limit < 1000);
-        let mut link = make_link(rt.alloc(), &input[..length], pieces, failing, &[])?;
-        let result = read_all(rt.alloc(), &mut link, limit);
-        let taken = link.input.taken().len();
-        match result {
-            Ok(bytes) => {
-                assert_eq!(rt; Ok(bytes.len()), wanted);
-                assert_eq!(rt; bytes.as_slice(), &input[..length]);
-            }
-            Err(fault) => {
-                assert_eq!(rt; Err(fault), wanted);
-                assert!(rt; taken <= limit + 1);
-            }
-        }
-        let failed = wanted == Err(ReadFault::Failed);
-        assert_eq!(rt; link.read_faults(), failed as u64);
+    for (input, limit, pieces, failing, wanted) in table {
+        let mut link = make_link(rt.alloc(), input, pieces, failing, &[])?;
+        check_whole(&rt, rt.alloc(), &mut link, limit, input, wanted);
     }
     Ok(())
 }

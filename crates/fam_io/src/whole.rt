@@ -28,7 +28,8 @@ pub enum ReadFault {
 
 /// Writes all of the piece. After an error a prefix of it was written.
 pub fn write_all<K: Sink>(output: &mut K, bytes: &[u8]) -> Result<(), Failed>
-    ensures all { OnOk result (Appends (K.sink output.old).written (K.sink output.new).written bytes.now) }
+    ensures all { OnOk result
+        (Appends (K.sink output.old).written (K.sink output.new).written bytes.now) }
     ensures lost { OnErr result (AddsPrefix (K.sink output.old) (K.sink output.new) bytes.now) }
     ensures cause { HasCause (K.sink output.old).faults (K.sink output.new).faults result }
     ensures beside { K.source_beside output.new ≡ K.source_beside output.old }
@@ -48,14 +49,19 @@ const ROOM: usize = 65_536;
 /// After an error what was read is lost.
 pub fn read_all<S: Source>(alloc: Global, input: &mut S, limit: usize) -> Result<Vec<u8>, ReadFault>
     requires { limit < 2 ^ 63 }
-    ensures all { IfOk result (λ bytes. Moves (S.source input.old) (S.source input.new) bytes.items) }
+    ensures all { IfOk result (λ bytes.
+        Moves (S.source input.old) (S.source input.new) bytes.items) }
     ensures end { OnOk result (IsAtEnd (S.source input.new).left) }
     ensures within { IfOk result (λ bytes. length bytes.items ≤ limit) }
-    ensures whole { IfOk result (λ bytes. IfSome (S.source input.old).left (λ left. bytes.items ≡ left)) }
+    ensures whole { IfOk result (λ bytes.
+        IfSome (S.source input.old).left (λ left. bytes.items ≡ left)) }
     ensures answer { IfSome (S.source input.old).left (λ left.
-        ¬ Rose (S.source input.old).faults (S.source input.new).faults → IsAnswer limit left result) }
-    ensures too_long { IsErrOf result ReadFault.TooLong → MovesExactly (S.source input.old) (S.source input.new) (limit + 1) }
-    ensures failed { IsErrOf result ReadFault.Failed → Rose (S.source input.old).faults (S.source input.new).faults }
+        ¬ Rose (S.source input.old).faults (S.source input.new).faults
+        → IsAnswer limit left result) }
+    ensures too_long { IsErrOf result ReadFault.TooLong
+        → MovesExactly (S.source input.old) (S.source input.new) (limit + 1) }
+    ensures failed { IsErrOf result ReadFault.Failed
+        → Rose (S.source input.old).faults (S.source input.new).faults }
     ensures lost { MovesUpTo (S.source input.old) (S.source input.new) (limit + 1) }
     ensures later { (S.source input.old).faults ≤ (S.source input.new).faults }
     ensures beside { S.sink_beside input.new ≡ S.sink_beside input.old }
@@ -84,11 +90,14 @@ fn read_through<S: Source>(
 ) -> Result<Vec<u8>, ReadFault>
     requires room { 0 < length room.old }
     requires limit { limit < 2 ^ 63 }
-    ensures all { IfOk result (λ bytes. Moves (S.source input.old) (S.source input.new) bytes.items) }
+    ensures all { IfOk result (λ bytes.
+        Moves (S.source input.old) (S.source input.new) bytes.items) }
     ensures end { OnOk result (IsAtEnd (S.source input.new).left) }
     ensures within { IfOk result (λ bytes. length bytes.items ≤ limit) }
-    ensures too_long { IsErrOf result ReadFault.TooLong → MovesExactly (S.source input.old) (S.source input.new) (limit + 1) }
-    ensures failed { IsErrOf result ReadFault.Failed → Rose (S.source input.old).faults (S.source input.new).faults }
+    ensures too_long { IsErrOf result ReadFault.TooLong
+        → MovesExactly (S.source input.old) (S.source input.new) (limit + 1) }
+    ensures failed { IsErrOf result ReadFault.Failed
+        → Rose (S.source input.old).faults (S.source input.new).faults }
     ensures lost { MovesUpTo (S.source input.old) (S.source input.new) (limit + 1) }
     ensures later { (S.source input.old).faults ≤ (S.source input.new).faults }
     ensures beside { S.sink_beside input.new ≡ S.sink_beside input.old }
@@ -112,10 +121,13 @@ fn read_piece<S: Source>(
     requires { 0 < length room.old }
     ensures bound { IfOk result (λ n. n ≤ length room.old) }
     ensures given { IfOk result (λ n. (given : List ℕ) × (length given ≡ n)
-        × (bytes.new.items ≡ bytes.old.items ++ given) × Moves (S.source input.old) (S.source input.new) given) }
+        × (bytes.new.items ≡ bytes.old.items ++ given)
+        × Moves (S.source input.old) (S.source input.new) given) }
     ensures end { IfOk result (λ n. n ≡ 0 → IsAtEnd (S.source input.new).left) }
-    ensures lost { OnErr result (MovesUpTo (S.source input.old) (S.source input.new) (length room.old)) }
-    ensures failed { IsErrOf result ReadFault.Failed → Rose (S.source input.old).faults (S.source input.new).faults }
+    ensures lost { OnErr result
+        (MovesUpTo (S.source input.old) (S.source input.new) (length room.old)) }
+    ensures failed { IsErrOf result ReadFault.Failed
+        → Rose (S.source input.old).faults (S.source input.new).faults }
     ensures not_long { result ≢ Err ReadFault.TooLong }
     ensures later { (S.source input.old).faults ≤ (S.source input.new).faults }
     ensures beside { S.sink_beside input.new ≡ S.sink_beside input.old }

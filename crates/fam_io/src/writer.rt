@@ -20,6 +20,7 @@ pub struct Writer<W> {
 }
 
 impl<W> Writer<W> {
+    /// A writer of which no write failed yet.
     pub fn new(inner: W) -> Writer<W>
         ensures { result ≡ record { inner = inner; faults = 0 } }
     {
@@ -61,12 +62,14 @@ impl<W: Write> Sink for Writer<W> {
     }
 }
 
-/// One write, again where a signal interrupts it. 0 bytes of a piece that is not empty are an error.
-#[tactic(auto, using(crate::proofs::Again::keeps_itself, crate::proofs::Again::keeps_on, crate::proofs::Again::keeps_appends, crate::proofs::Again::keeps_at_none))]
+/// One write, again where a signal interrupts it. 0 bytes of a piece that is not empty are an
+/// error.
+#[tactic(auto, using(crate::proofs::Again::again))]
 fn write_once<W: Write>(writer: &mut W, from: &[u8]) -> io::Result<usize>
     ensures bound { WritesAtMost result from.now }
     ensures some { IfOk result (λ n. 0 < length from.now → 0 < n) }
-    ensures bytes { IfOk result (λ n. Appends (W.contents writer.old) (W.contents writer.new) (take n from.now)) }
+    ensures bytes { IfOk result (λ n.
+        Appends (W.contents writer.old) (W.contents writer.new) (take n from.now)) }
     ensures lost { OnErr result (Keeps (W.contents writer.old) (W.contents writer.new)) }
 {
     for _ in 0..u64::MAX {
