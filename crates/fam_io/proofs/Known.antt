@@ -1,18 +1,9 @@
 -- One read or write after another.
-use Rattle.std.proofs.Common.{ℕ, ◌+◌, List, [], ◌++◌, take, drop, refl, sym, ap, ◌∙◌, subst, append_assoc}
+use Rattle.std.proofs.Common.{ℕ, ◌+◌, List, ◌++◌, take, drop, sym, ap, ◌∙◌, subst, append_assoc}
 use Rattle.std.specs.Prelude.{Option, None, Some}
-use Rattle.std.proofs.lemmas.List.{append-nil}
 use Rattle.std.proofs.Math.Seq.{take-add}
 use Rattle.std.specs.Io.KnownBytes.{Appends, Consumes}
 use Rattle.fam_io.specs.State.{SourceState, Moves}
-
-pub Consumes-nil : (a : Option (List ℕ)) → Consumes a a []
-Consumes-nil None = tt
-Consumes-nil (Some x) = refl
-
-pub Appends-nil : (a : Option (List ℕ)) → Appends a a []
-Appends-nil None = tt
-Appends-nil (Some x) = sym (append-nil x)
 
 pub Appends-trans : (a b c : Option (List ℕ)) (bs cs : List ℕ) → Appends a b bs → Appends b c cs → Appends a c (bs ++ cs)
 Appends-trans None b c bs cs p q = tt
@@ -25,9 +16,6 @@ Consumes-trans None b c bs cs p q = tt
 Consumes-trans (Some x) None c bs cs p q = absurd p
 Consumes-trans (Some x) (Some y) None bs cs p q = absurd q
 Consumes-trans (Some x) (Some y) (Some z) bs cs p q = p ∙ ap (λ (l : List ℕ). bs ++ l) q ∙ sym (append_assoc bs cs z)
-
-pub Moves-nil : (s : SourceState) → Moves s s []
-Moves-nil s = record { given = Consumes-nil s.left; kept = Appends-nil s.taken }
 
 pub Moves-trans : (a b c : SourceState) (bs cs : List ℕ) → Moves a b bs → Moves b c cs → Moves a c (bs ++ cs)
 Moves-trans a b c bs cs p q =

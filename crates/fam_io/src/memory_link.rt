@@ -18,8 +18,8 @@ use std::alloc::Global;
 pub struct MemLink {
     /// What is read of it.
     pub input: MemSource,
-    /// How many bytes each read may give. A 0 counts as 1, the last number is for all later reads,
-    /// and an empty list sets no bound.
+    /// How many bytes each read may give; one that fails has its number too. A 0 counts as 1, the last
+    /// number is for all later reads, and an empty list sets no bound.
     pub pieces: Places,
     /// What is written to it.
     pub output: MemSink,
