@@ -35,7 +35,7 @@ use Rattle.fam_model.specs.ReportText.{reply_lines, numbered}
 use Rattle.fam_model.specs.Rows.{common_rows}
 use Rattle.fam_model.specs.Step.{step}
 use Rattle.fam_model.specs.Text.{Asked, Once, written_out, follows, follows_after, next_of, next_call}
-use Rattle.famrun.specs.Form.{is_played, is_played_service, is_played_program, is_played_statement}
+use Rattle.fam_script.specs.Form.{is_played, is_played_service, is_played_program, is_played_statement}
 use Rattle.famrun.specs.Playing.{call_of, event_of}
 use Rattle.famrun.specs.Running.{HasRun, EndsRun, asked, is_calm, op_of, ops_of, replies_of, line_of, lines_from}
 use Rattle.famrun.specs.Standing.{one_stripe, start, Done, program_with, state_with, AllAnswered}

@@ -12,7 +12,7 @@ use Rattle.fam_model.specs.declared.script.Program.{Program}
 use Rattle.fam_model.specs.declared.script.Statement.{Statement, One, Repeat', Spin}
 use Rattle.fam_model.specs.contracts.call.CallEq.TheImpl.Laws as call_laws
 use Rattle.fam_model.specs.Text.{Turn, Once, Asked, written_out, next_of, next_call, is_call, follows, follows_after}
-use Rattle.famrun.specs.Form.{is_played_op, is_played_call, is_played_statement}
+use Rattle.fam_script.specs.Form.{is_played_op, is_played_call, is_played_statement}
 use Rattle.famrun.specs.Playing.{call_of}
 use Rattle.famrun.specs.Running.{op_of, ops_of, asked}
 

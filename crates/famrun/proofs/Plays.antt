@@ -16,7 +16,7 @@ use Rattle.fam_model.specs.declared.script.Script.{Script}
 use Rattle.fam_model.specs.declared.script.Statement.{Statement, One}
 use Rattle.fam_model.specs.Headline.{IsRun}
 use Rattle.fam_model.specs.Rows.{common_rows}
-use Rattle.famrun.specs.Form.{is_played, is_played_service, is_played_program, is_played_statement, is_played_call, is_played_op}
+use Rattle.fam_script.specs.Form.{is_played, is_played_service, is_played_program, is_played_statement, is_played_call, is_played_op}
 use Rattle.famrun.specs.Playing.{op_made, event_of, turn_events, reply_to, bytes_after}
 use Rattle.famrun.specs.Running.{HasRun, EndsRun, op_of, ops_of, replies_of, line_of}
 use Rattle.famrun.proofs.Ends.{run_so_far, run_ends}

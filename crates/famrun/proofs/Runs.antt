@@ -17,7 +17,7 @@ use Rattle.fam_model.specs.Limits.{Limits, service_limits}
 use Rattle.fam_model.specs.Lists.{◌>>=◌}
 use Rattle.fam_model.specs.Step.{step}
 use Rattle.fam_model.specs.Text.{Asked}
-use Rattle.famrun.specs.Form.{is_played_op}
+use Rattle.fam_script.specs.Form.{is_played_op}
 use Rattle.famrun.specs.Playing.{turn_events, reply_to, bytes_after, call_of, event_of}
 use Rattle.famrun.specs.Running.{HasRun, AllFrom, asked, is_calm, replies_of, line_of, lines_from}
 use Rattle.famrun.specs.Standing.{start, state_with, StandsBefore}

@@ -23,7 +23,7 @@ use Rattle.fam_model.specs.Pieces.{moved, part, read_piece, write_piece}
 use Rattle.fam_model.specs.PieceStep.{may_answer, overwritten}
 use Rattle.fam_model.specs.Shape.{is_shaped_data}
 use Rattle.fam_model.specs.Same.{same_reply}
-use Rattle.famrun.specs.Form.{is_outside, is_played_range, is_played_op}
+use Rattle.fam_script.specs.Form.{is_outside, is_played_range, is_played_op}
 use Rattle.famrun.specs.Playing.{turn_events, bytes_after, call_of, event_of, is_out}
 use Rattle.famrun.specs.Standing.{one_stripe, Done, program_with, state_with, StandsBefore, AllAnswered, IsAnswered}
 use Rattle.famrun.proofs.OnePiece.{common, get_piece, put_piece, no_get_piece, no_put_piece}

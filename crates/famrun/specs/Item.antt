@@ -1,6 +1,6 @@
 -- The bytes of an item that lies in rows of one unit each.
 use Rattle.std.specs.Prelude.{◌≡◌, ℕ, ◌+◌, ◌%◌, ◌<◌, ◌≤◌, List, [], ◌∷◌, ◌++◌, length}
-use Rattle.famrun.specs.Form.{unit_size}
+use Rattle.fam_script.specs.Form.{unit_size}
 
 -- the rows one after the other
 abbrev pub joined : List (List ℕ) → List ℕ

@@ -1,4 +1,3 @@
-pub mod Form
 pub mod Item
 pub mod Playing
 pub mod Running

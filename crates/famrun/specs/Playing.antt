@@ -14,7 +14,7 @@ use Rattle.fam_model.specs.declared.reply.Reply.{Reply}
 use Rattle.fam_model.specs.declared.reply.Reply.TheVariants as reply
 use Rattle.fam_model.specs.Pieces.{moved}
 use Rattle.fam_model.specs.PieceStep.{overwritten}
-use Rattle.famrun.specs.Form.{is_outside}
+use Rattle.fam_script.specs.Form.{is_outside}
 
 -- an event of the one program
 abbrev pub event_of : ℕ → What → Event

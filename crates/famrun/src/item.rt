@@ -2,7 +2,7 @@
 
 ghost use Rattle.std.specs.Prelude.{◌≡◌, ◌+◌, length, replicate, slice_range, IfOk};
 ghost use Rattle.fam_model.specs.PieceStep.{overwritten};
-ghost use Rattle.famrun.specs.Form.{item_size};
+ghost use Rattle.fam_script.specs.Form.{item_size};
 ghost use Rattle.famrun.specs.Item.{LiesInUnit};
 
 use fam_base::{NoMemory, RegionId};

@@ -6,7 +6,7 @@ ghost use Rattle.fam_model.specs.declared.event.What.TheVariants as what;
 ghost use Rattle.fam_model.specs.declared.reply.Reply.TheVariants as replies;
 ghost use Rattle.fam_model.specs.Headline.{IsRun};
 ghost use Rattle.fam_model.specs.Rows.{common_rows};
-ghost use Rattle.famrun.specs.Form.{is_played, is_played_call};
+ghost use Rattle.fam_script.specs.Form.{is_played, is_played_call};
 ghost use Rattle.famrun.specs.Playing.{event_of, op_made, turn_events, reply_to, bytes_after};
 ghost use Rattle.famrun.specs.Running.{HasRun, EndsRun, line_of, ops_of};
 

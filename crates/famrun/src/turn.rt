@@ -6,7 +6,7 @@ ghost use Rattle.fam_model.specs.declared.call.DataOp.TheVariants as data_op;
 ghost use Rattle.fam_model.specs.declared.event.What.TheVariants as what;
 ghost use Rattle.fam_model.specs.declared.reply.Reply.TheVariants as replies;
 ghost use Rattle.fam_base.specs.declared.error.FamError.TheVariants as errors;
-ghost use Rattle.famrun.specs.Form.{is_outside, is_played_range, is_played_call};
+ghost use Rattle.fam_script.specs.Form.{is_outside, is_played_range, is_played_call};
 ghost use Rattle.famrun.specs.Playing.{event_of, call_of, op_made, bytes_after, IsTurn};
 
 use crate::item::CommonItem;

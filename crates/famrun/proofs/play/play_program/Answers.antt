@@ -4,7 +4,7 @@ use Rattle.std.specs.Prelude.{IsErr}
 use Rattle.fam_model.specs.Headline.{IsRun}
 use Rattle.fam_model.specs.Rows.{common_rows}
 use Rattle.fam_model.specs.declared.script.Statement.{One}
-use Rattle.famrun.specs.Form.{is_played_statement}
+use Rattle.fam_script.specs.Form.{is_played_statement}
 use Rattle.famrun.specs.Running.{ops_of, HasRun}
 use Rattle.famrun.proofs.Ends.{run_so_far}
 use Rattle.famrun.proofs.Plays.{is_one, all_at, play_more, take_next}

@@ -4,7 +4,7 @@ use Rattle.fam_model.specs.declared.event.What.TheVariants as what
 use Rattle.fam_model.specs.declared.reply.Reply.TheVariants as replies
 use Rattle.fam_model.specs.Headline.{IsRun}
 use Rattle.fam_model.specs.Rows.{common_rows}
-use Rattle.famrun.specs.Form.{is_played, is_played_call}
+use Rattle.fam_script.specs.Form.{is_played, is_played_call}
 use Rattle.famrun.specs.Playing.{event_of, op_made, turn_events, reply_to, bytes_after}
 use Rattle.famrun.specs.Running.{HasRun, EndsRun, line_of, ops_of}
 use Rattle.famrun.proofs.play.play_to_end.Goals as goal

@@ -1,0 +1,13 @@
+pub mod BadLines
+pub mod Beginnings
+pub mod Cuts
+pub mod LinesBack
+pub mod LinesRead
+pub mod Numbers
+pub mod Readings
+pub mod Scans
+pub mod ScriptsBack
+pub mod ScriptsRead
+pub mod Splits
+pub mod Tests
+pub mod WordsBack

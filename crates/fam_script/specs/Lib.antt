@@ -1,0 +1,4 @@
+pub mod BadLine
+pub mod Form
+pub mod Machine
+pub mod Reading
