@@ -1,6 +1,7 @@
 //! Laws of the definitions, each the contract of a function that does nothing.
 
 ghost use Rattle.fam_model.specs.Laws.{RulesAreSteps, HistoriesGoOn, TestsAreEquality, PartsAreWhole, CutsAreExact};
+ghost use Rattle.fam_model.specs.Worked.{WorkedHistoriesAreLegal};
 
 /// An event breaks a rule exactly where it has no next state.
 pub fn rules_are_steps()
@@ -25,4 +26,9 @@ pub fn parts_are_whole()
 /// Parts cover their range once, in order, and meet exactly where units begin.
 pub fn cuts_are_exact()
     ensures { CutsAreExact }
+{}
+
+/// Histories that show what the machine may do.
+pub fn worked_histories_are_legal()
+    ensures { WorkedHistoriesAreLegal }
 {}
