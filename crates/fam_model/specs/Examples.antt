@@ -158,10 +158,11 @@ repeating =
     (more_of-Statement (Repeat' 3 (tt ∷ []) (more_of-Statement (One (call.Quiet 0)) end_of-Statement)) end_of-Statement))
     ∷ [])
 
--- replies of spins, fences and quiets
+-- the reply of a fetch
 abbrev pub value : ℕ → Reply
 value n = reply.Value (pos n)
 
+-- the reply of a quiet with nothing to tell
 abbrev pub empty_report : Reply
 empty_report = reply.Report []
 

@@ -26,6 +26,7 @@ miss run place rule = record { run = run; place = place; rule = rule }
 abbrev pub pending_put : List Event
 pending_put = at 0 (issued (put_nb 0 (1 ∷ []))) ∷ []
 
+-- near misses of each rule
 abbrev pub near_misses : List NearMiss
 near_misses =
     -- there is no such program
