@@ -6,7 +6,7 @@ use Rattle.std.specs.Option.{option_map_or}
 use Rattle.fam_model.specs.declared.event.Event.{Event}
 use Rattle.fam_model.specs.declared.state.ProgramState.{ProgramState}
 use Rattle.fam_model.specs.declared.state.State.{State}
-use Rattle.fam_model.specs.Earned.{parts, parts_with, begins_part, rounds_after, are_earned, is_earned_from}
+use Rattle.fam_model.specs.Earned.{parts, parts_with, begins_part, rounds_after, are_earned}
 use Rattle.fam_model.specs.History.{state_after, is_legal}
 use Rattle.fam_model.specs.Limits.{Limits}
 use Rattle.fam_model.specs.Lists.{◌>>=◌, is_some_and}

@@ -1,10 +1,9 @@
 -- Values of the definitions, computed.
-use Rattle.std.specs.Prelude.{◌≡◌, ℕ, Bool, true, false, pos, negsuc, List, [], ◌∷◌, map, length, codes, Option, Some, None}
+use Rattle.std.specs.Prelude.{◌≡◌, ℕ, true, false, pos, negsuc, List, [], ◌∷◌, map, length, codes, Option, Some, None}
 use Rattle.fam_base.specs.declared.error.FamError.{FamError}
 use Rattle.fam_base.specs.declared.error.FamError.TheVariants as error
 use Rattle.fam_model.specs.declared.call.Op.TheVariants as op
 use Rattle.fam_model.specs.declared.call.Width.TheVariants as width
-use Rattle.fam_model.specs.declared.call.MetaCall.TheVariants as meta
 use Rattle.fam_model.specs.declared.call.Call.{Call}
 use Rattle.fam_model.specs.declared.call.Call.TheVariants as call
 use Rattle.fam_model.specs.declared.call.DataOp.TheVariants as data_op
@@ -20,7 +19,6 @@ use Rattle.fam_model.specs.declared.reply.Reply.TheVariants as reply
 use Rattle.fam_model.specs.declared.rows.Rows.{Rows}
 use Rattle.fam_model.specs.declared.script.Program.{Program}
 use Rattle.fam_model.specs.declared.script.Statement.{Statement, One, Repeat', Spin, end_of-Statement, more_of-Statement}
-use Rattle.fam_model.specs.declared.service.Service.{Service}
 use Rattle.fam_model.specs.declared.state.ProgramState.{ProgramState}
 use Rattle.fam_model.specs.Atomic.{atomic, bytes_after}
 use Rattle.fam_model.specs.Earned.{parts, are_earned}
@@ -32,7 +30,6 @@ use Rattle.fam_model.specs.Opened.{new_program}
 use Rattle.fam_model.specs.Pieces.{cuts, place_at}
 use Rattle.fam_model.specs.Rows.{common_rows, room}
 use Rattle.fam_model.specs.Text.{next_call, follows}
-use Rattle.fam_model.specs.Worked as worked
 use Rattle.fam_model.specs.Worked.{user, stripes, at, other_at, issued, put, get, put_and_get, gone_and_new, alone, together}
 
 -- new values of atomics, by the width's own order and range

@@ -1,5 +1,5 @@
 -- Laws of the definitions.
-use Rattle.std.specs.Prelude.{◌≡◌, ◌↔◌, ℕ, ◌+◌, ◌<◌, Bool, true, ◌==◌, List, [], ◌∷◌, ◌++◌, All, Option, Some, IsTrue, is_none, is_some}
+use Rattle.std.specs.Prelude.{◌≡◌, ◌↔◌, ℕ, ◌+◌, ◌<◌, Bool, ◌==◌, List, [], ◌∷◌, ◌++◌, All, Option, Some, IsTrue, is_none, is_some}
 use Rattle.std.specs.List.{list_any, flat_map}
 use Rattle.fam_model.specs.declared.call.Call.{Call}
 use Rattle.fam_model.specs.declared.event.Event.{Event}

@@ -1,16 +1,15 @@
 -- Histories that are nearly legal, with the first event that has no next state and the rule that it breaks.
-use Rattle.std.specs.Prelude.{◌≡◌, ℕ, Bool, true, false, pos, List, [], ◌∷◌, ◌++◌, map, codes, Option, Some}
+use Rattle.std.specs.Prelude.{◌≡◌, ℕ, true, false, List, [], ◌∷◌, ◌++◌, map, codes, Option, Some}
 use Rattle.fam_base.specs.declared.error.FamError.TheVariants as error
 use Rattle.fam_model.specs.declared.call.MetaCall.TheVariants as meta
 use Rattle.fam_model.specs.declared.call.Call.TheVariants as call
-use Rattle.fam_model.specs.declared.call.DataOp.TheVariants as data_op
 use Rattle.fam_model.specs.declared.reply.PieceAnswer.TheVariants as answer
 use Rattle.fam_model.specs.declared.reply.Reply.TheVariants as reply
 use Rattle.fam_model.specs.declared.event.Event.{Event}
 use Rattle.fam_model.specs.declared.event.What.TheVariants as what
 use Rattle.fam_model.specs.Limits.{service_limits}
 use Rattle.fam_model.specs.Rules.{first_broken}
-use Rattle.fam_model.specs.Worked.{Run, alone, together, on_two_stripes, at, other_at, issued, refused, served, found, put, put_nb, get, copy, region_a, allocated, result, creation_refused, put_and_get, fenced_puts, two_items}
+use Rattle.fam_model.specs.Worked.{Run, alone, together, on_two_stripes, at, other_at, issued, refused, served, found, put, put_nb, copy, result, creation_refused, put_and_get, fenced_puts, two_items}
 
 -- a run whose event at this place, counted from 0, breaks this rule, while those before it are legal
 pub record NearMiss : Type 0 where

@@ -1,5 +1,5 @@
 -- Worked histories, each of which is legal.
-use Rattle.std.specs.Prelude.{◌≡◌, ℕ, Bool, true, false, pos, negsuc, List, [], ◌∷◌, length, replicate, codes, IsTrue}
+use Rattle.std.specs.Prelude.{ℕ, Bool, true, false, pos, negsuc, List, [], ◌∷◌, length, replicate, codes, IsTrue}
 use Rattle.std.specs.List.{list_all}
 use Rattle.fam_base.specs.declared.naming.Descriptor.{Descriptor}
 use Rattle.fam_base.specs.declared.naming.Who.{Who}
@@ -10,12 +10,10 @@ use Rattle.fam_model.specs.declared.call.Width.TheVariants as width
 use Rattle.fam_model.specs.declared.call.MetaCall.TheVariants as meta
 use Rattle.fam_model.specs.declared.call.Call.{Call}
 use Rattle.fam_model.specs.declared.call.Call.TheVariants as call
-use Rattle.fam_model.specs.declared.call.DataOp.{DataOp}
 use Rattle.fam_model.specs.declared.call.DataOp.TheVariants as data_op
 use Rattle.fam_model.specs.declared.reply.OpResult.{OpResult}
 use Rattle.fam_model.specs.declared.reply.PieceAnswer.{PieceAnswer}
 use Rattle.fam_model.specs.declared.reply.PieceAnswer.TheVariants as answer
-use Rattle.fam_model.specs.declared.reply.Reply.{Reply}
 use Rattle.fam_model.specs.declared.reply.Reply.TheVariants as reply
 use Rattle.fam_model.specs.declared.event.Event.{Event}
 use Rattle.fam_model.specs.declared.event.What.{What}
