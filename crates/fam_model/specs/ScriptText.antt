@@ -32,6 +32,7 @@ line_text l = words_text (line_words l)
 
 -- the lines of a script
 
+-- a statement, and the statements of a repeat
 abbrev mutual
   pub statement_lines : Statement → List Line
   statement_lines (One asked) = line.One asked ∷ []
@@ -55,8 +56,9 @@ script_lines script = line.Service script.service ∷ (flat_map program_lines sc
 abbrev pub script_text : Script → List ℕ
 script_text script = text_of (map line_text (script_lines script))
 
--- how many calls a statement may make, and how deep its repeats lie in one another
+-- how large statements are
 
+-- how many calls a statement may make, with repeats multiplied and spins counted by their tries
 abbrev mutual
   pub call_count : Statement → ℕ
   call_count (One asked) = 1
@@ -67,6 +69,7 @@ abbrev mutual
   block_count end_of-Statement = 0
   block_count (more_of-Statement statement rest) = call_count statement + block_count rest
 
+-- how deep the repeats of a statement lie in one another
 abbrev mutual
   pub nesting : Statement → ℕ
   nesting (One asked) = 0

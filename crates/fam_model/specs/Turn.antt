@@ -44,7 +44,7 @@ is_idle _ = false
 abbrev pub is_next : ProgramState → ℕ → Bool
 is_next p call = call == p.next_call && nat_lt call number_end
 
--- an event stands at the right place among those of its program
+-- an event stands at the right place among those of its program, and the call that it makes is well-formed
 abbrev pub is_in_turn : ProgramState → ℕ → What → Bool
 is_in_turn p call (what.Piece piece given) = true
 is_in_turn p call (what.Lose piece) = true
