@@ -21,7 +21,7 @@ use Rattle.fam_script.specs.Form.{is_played_op}
 use Rattle.famrun.specs.Playing.{turn_events, reply_to, bytes_after, call_of, event_of}
 use Rattle.famrun.specs.Running.{HasRun, AllFrom, asked, is_calm, replies_of, line_of, lines_from}
 use Rattle.famrun.specs.Standing.{start, state_with, StandsBefore}
-use Rattle.fam_model.proofs.Laws.{state_after-append}
+use Rattle.fam_model.proofs.Histories.{state_after-append}
 use Rattle.famrun.proofs.Calls.{turn_told, turn_from, turn_calm, from_lower}
 use Rattle.famrun.proofs.Whole.{each_turn}
 

@@ -1,0 +1,12 @@
+use Rattle.std.proofs.Common.{◌∷◌, []}
+use Rattle.std.specs.Prelude.{codes}
+use Rattle.std.specs.Fmt.{decimal}
+use Rattle.fam_model.specs.ReplyText.{reply_words}
+use Rattle.fam_model.specs.Words.{context_text}
+use Rattle.fam_text.proofs.Told.{told}
+use Rattle.fam_text.proofs.report.events.push_wait.Goals as goal
+
+pub returns : goal.returns
+returns c =
+    rw (c.in_ok-push_answered.ensures, c.in_ok-push_string.ensures, c.in_ok-printed.ensures.ok)
+    (told c.args.text.now.items (codes "wait" ∷ context_text c.args.context ∷ decimal c.args.named ∷ []) (reply_words c.args.reply.now))
