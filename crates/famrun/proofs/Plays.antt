@@ -1,9 +1,9 @@
 -- The player's loop, and its ends.
 use Rattle.std.proofs.Common.{◌≡◌, ℕ, zero, suc, ◌+◌, ◌<◌, ◌≤◌, Bool, true, false, List, [], ◌∷◌, ◌++◌, refl, sym, ap, ◌∙◌, arith, length, append-nil, subst, get_or, take, drop, le_refl, vec_len}
-use Rattle.std.specs.Prelude.{◌==◌, ◌&&◌, nat_le, Option, Some, None, map}
+use Rattle.std.specs.Prelude.{◌==◌, ◌&&◌, nat_le, map, Result, Ok, Err, OnOk, OnErr}
 use Rattle.std.specs.List.{list_all}
 use Rattle.std.proofs.lemmas.Bool.{leb-true}
-use Rattle.std.proofs.lemmas.List.{map-append, length-map}
+use Rattle.std.proofs.lemmas.List.{map-append, length-map, take_more}
 use Rattle.fam_base.specs.declared.naming.Who.{Who}
 use Rattle.fam_model.specs.declared.call.Call.{Call}
 use Rattle.fam_model.specs.declared.call.Call.TheVariants as call
@@ -75,3 +75,36 @@ play_more who front more asked history new_history lines new_lines bytes new_byt
 pub nothing_run : (script : Script) (history : List Event) → script.programs ≡ [] → history ≡ [] → IsRun common_rows script history
 nothing_run script history none e =
     rw (none, e) (record { legal = refl; follows = refl; earned = record { numbers = refl; faults = λ low. le_refl 0 } })
+
+pub nothing_ends : (script : Script) (history : List Event) (lines : List ReplyLine) → script.programs ≡ [] → history ≡ [] → lines ≡ [] → EndsRun script history lines
+nothing_ends script history lines none e f =
+    record {
+      run = nothing_run script history none e;
+      ended = rw (none, e) refl;
+      replies = rw (none, e, f) refl;
+    }
+
+-- one statement more
+pub take_next : (statements : List Statement) (i : ℕ) (statement : Statement) → i < length statements → statement ≡ get_or statements i statement →
+    take (i + 1) statements ≡ take i statements ++ statement ∷ []
+take_next statements i statement there e =
+    take_more statements i statement there ∙ ap (λ s. take i statements ++ s ∷ []) (sym e)
+
+pub on_err : {T E P : Type 0} (r : Result T E) → P → OnErr r P
+on_err (Ok x) p = tt
+on_err (Err e) p = p
+
+-- the run is over
+pub run_left : (script : Script) (program : Program) (history new_history : List Event) (lines new_lines : List ReplyLine) (bytes : List ℕ) (n : ℕ) →
+    IsOne script program → HasRun program.who (ops_of program.statements) history lines bytes → n ≡ length lines →
+    new_history ≡ history ++ event_of n what.Leave ∷ [] → new_lines ≡ lines ++ line_of n reply.Left ∷ [] → EndsRun script new_history new_lines
+run_left script program history new_history lines new_lines bytes n one run count e f =
+    let many : length (ops_of program.statements) ≡ length program.statements = length-map program.statements op_of in
+    let told : length (replies_of lines) ≡ length lines = length-map lines (λ (line : ReplyLine). line.reply) in
+    let number : length (ops_of program.statements) ≡ n = sym run.count ∙ told ∙ sym count in
+    let few : length program.statements ≤ 64 = one.few in
+    rw (e, f) (run_ends script program history lines bytes n one.one one.service one.statements run number (omega arith))
+
+pub both_ok : {T E P Q R : Type 0} (r : Result T E) → OnOk r P → OnOk r Q → (P → Q → R) → OnOk r R
+both_ok (Ok x) p q f = f p q
+both_ok (Err e) p q f = tt

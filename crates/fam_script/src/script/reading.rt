@@ -8,7 +8,7 @@ use fam_model::{Line, Program, Script, Service, Statement};
 use std::alloc::Global;
 
 /// What the lines so far are the beginning of.
-#[derive(Debug, Drop)]
+#[derive(Drop)]
 pub enum Reading {
     /// There is none.
     Nothing,

@@ -1,14 +1,7 @@
-use Rattle.std.proofs.Common.{rules, ◌≡◌, [], ◌∷◌, ◌++◌, true, OnOk, OnErr, vec_len, ℕ, ◌+◌, ◌-◌, ◌*◌, ◌<◌, ◌≤◌, length, ◌/◌, ◌%◌, Bool, false, nat_eq, nat_lt, List, slice_index_or, slice_set, bit_and, bit_or, Fits, w8, w32, w64, Bor, MutBor}
-use Rattle.fam_model.specs.declared.script.Program.{Program}
-use Rattle.fam_model.specs.declared.event.What.TheVariants as what
-use Rattle.fam_model.specs.declared.reply.Reply.TheVariants as replies
-use Rattle.fam_model.specs.Headline.{IsRun}
-use Rattle.fam_model.specs.Rows.{common_rows}
-use Rattle.fam_script.specs.Form.{is_played, is_played_call}
-use Rattle.famrun.specs.Playing.{event_of, op_made, turn_events, reply_to, bytes_after}
-use Rattle.famrun.specs.Running.{HasRun, EndsRun, line_of, ops_of}
+use Rattle.std.proofs.Common.{◌∙◌, refl}
+use Rattle.famrun.proofs.Runs.{run_starts}
 use Rattle.famrun.proofs.play.play_one.Goals as goal
 
--- src/play.rt:126:17
 pub play_to_end-requires-clause-fresh : goal.play_to_end-requires-clause-fresh
-play_to_end-requires-clause-fresh c = ?
+play_to_end-requires-clause-fresh c =
+    rw (c.new-2.ensures.items, c.new-3.ensures.items, c.in-Ok.ensures) (run_starts c.args.program.now.who)

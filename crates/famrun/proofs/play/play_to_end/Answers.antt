@@ -1,18 +1,23 @@
-use Rattle.std.proofs.Common.{rules, ◌≡◌, [], ◌∷◌, ◌++◌, true, OnOk, OnErr, vec_len, ℕ, ◌+◌, ◌-◌, ◌*◌, ◌<◌, ◌≤◌, length, ◌/◌, ◌%◌, Bool, false, nat_eq, nat_lt, List, slice_index_or, slice_set, bit_and, bit_or, Fits, w8, w32, w64, Bor, MutBor}
-use Rattle.fam_model.specs.declared.script.Program.{Program}
-use Rattle.fam_model.specs.declared.event.What.TheVariants as what
-use Rattle.fam_model.specs.declared.reply.Reply.TheVariants as replies
+use Rattle.std.proofs.Common.{◌≡◌, sym, vec_len, append-nil, []}
+use Rattle.std.proofs.lemmas.Result.{on_err_weaker}
 use Rattle.fam_model.specs.Headline.{IsRun}
 use Rattle.fam_model.specs.Rows.{common_rows}
-use Rattle.fam_script.specs.Form.{is_played, is_played_call}
-use Rattle.famrun.specs.Playing.{event_of, op_made, turn_events, reply_to, bytes_after}
-use Rattle.famrun.specs.Running.{HasRun, EndsRun, line_of, ops_of}
+use Rattle.famrun.proofs.Ends.{run_so_far}
+use Rattle.famrun.proofs.Plays.{is_one, run_left, both_ok}
 use Rattle.famrun.proofs.play.play_to_end.Goals as goal
 
--- src/play.rt:99:1
 pub returns-clause-ok : goal.returns-clause-ok
-returns-clause-ok c = ?
+returns-clause-ok c =
+    let one = is_one c.args.script.now c.args.program.now c.requires.played c.requires.one in
+    let run = c.play_program.new.run in
+    both_ok c.leave.result c.leave.ensures.history c.leave.ensures.lines
+    (λ e f. run_left c.args.script.now c.args.program.now run.history.items c.leave.new.run.history.items run.lines.items c.leave.new.run.lines.items
+    run.item (vec_len run.lines) one c.in_ok-play_program.ensures.ok run.lines.ok.0 e f)
 
--- src/play.rt:99:1
 pub returns-clause-err : goal.returns-clause-err
-returns-clause-err c = ?
+returns-clause-err c =
+    let one = is_one c.args.script.now c.args.program.now c.requires.played c.requires.one in
+    let run = c.play_program.new.run in
+    let so_far = run_so_far c.args.script.now c.args.program.now c.args.program.now.statements [] run.history.items run.lines.items run.item
+        one.one one.service one.statements (sym (append-nil c.args.program.now.statements)) c.in_ok-play_program.ensures.ok in
+    on_err_weaker c.leave.result (λ same. rw same so_far) c.leave.ensures.err
