@@ -1,6 +1,6 @@
 -- Numbers read from their decimal digits.
 use Rattle.std.proofs.Common.{◌≡◌, ℕ, ◌<◌, ◌^◌, Bool, true, false, List, Option, Some, None, Result, Ok, refl, sym, ap, subst, ◌∙◌}
-use Rattle.std.specs.Prelude.{nat_lt, ◌&&◌}
+use Rattle.std.specs.Prelude.{nat_lt, ◌&&◌, ◌≢◌, IfSome, IfNone}
 use Rattle.std.specs.Str.{bytes_eq, IsUtf8}
 use Rattle.std.specs.Str.Parse.{digits_value, ParsesUnsigned}
 use Rattle.std.specs.Fmt.{decimal}
@@ -51,3 +51,21 @@ not_printed {E} word text value result same is parses differs =
     let value-is : value ≡ n = cc in
     let never : true ≡ false = sym (bytes_same (decimal value) word (ap decimal value-is ∙ e)) ∙ differs in
     absurd (cc never))
+
+-- what is read of a word is its number
+pub number_is : (word : List ℕ) → IfSome (number_of word) (λ n. (n < 2 ^ 64) × (word ≡ decimal n))
+number_is word = by_test (digits_value 10 word) (nat_lt (digits_value 10 word) (2 ^ 64) && bytes_eq (decimal (digits_value 10 word)) word) refl
+  where
+    by_test : (n : ℕ) (b : Bool) → (nat_lt n (2 ^ 64) && bytes_eq (decimal n) word) ≡ b → IfSome (when b n) (λ m. (m < 2 ^ 64) × (word ≡ decimal m))
+    by_test n true h =
+        (ltb-true _ _ (and_left (nat_lt n (2 ^ 64)) (bytes_eq (decimal n) word) h),
+        sym (same_bytes (decimal n) word (and_right (nat_lt n (2 ^ 64)) (bytes_eq (decimal n) word) h)))
+    by_test n false h = tt
+
+-- a word of which nothing is read is the text of no number
+pub number_only : (word : List ℕ) → IfNone (number_of word) ((n : ℕ) → n < 2 ^ 64 → word ≢ decimal n)
+number_only word = by_answer (number_of word) refl
+  where
+    by_answer : (o : Option ℕ) → number_of word ≡ o → IfNone o ((n : ℕ) → n < 2 ^ 64 → word ≢ decimal n)
+    by_answer None e = λ n low same. (let found : None ≡ Some n = sym e ∙ ap number_of same ∙ number_back n low in cc)
+    by_answer (Some m) e = tt

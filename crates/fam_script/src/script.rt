@@ -17,6 +17,8 @@ mod read;
 mod reading;
 mod word;
 
+pub use word::number;
+
 /// Why bytes are not played. A bad line is told by its number, the first line having number 1.
 #[derive(Clone, Copy, Debug, PartialEq, Eq, Error)]
 pub enum ScriptFault {

@@ -1,7 +1,7 @@
 -- The player's loop, and its ends.
 use Rattle.std.proofs.Common.{◌≡◌, ℕ, zero, suc, ◌+◌, ◌<◌, ◌≤◌, Bool, true, false, List, [], ◌∷◌, ◌++◌, refl, sym, ap, ◌∙◌, arith, length, append-nil, subst, get_or, take, drop, le_refl, vec_len}
 use Rattle.std.specs.Prelude.{◌==◌, ◌&&◌, nat_le, map, Result, Ok, Err, OnOk, OnErr}
-use Rattle.std.specs.List.{list_all}
+use Rattle.std.specs.List.{list_all, enumerate_from}
 use Rattle.std.proofs.lemmas.Bool.{leb-true}
 use Rattle.std.proofs.lemmas.List.{map-append, length-map, take_more}
 use Rattle.fam_base.specs.declared.naming.Who.{Who}
@@ -15,6 +15,8 @@ use Rattle.fam_model.specs.declared.script.Program.{Program}
 use Rattle.fam_model.specs.declared.script.Script.{Script}
 use Rattle.fam_model.specs.declared.script.Statement.{Statement, One}
 use Rattle.fam_model.specs.Headline.{IsRun}
+use Rattle.fam_model.specs.History.{calls}
+use Rattle.fam_model.specs.Text.{follows}
 use Rattle.fam_model.specs.Rows.{common_rows}
 use Rattle.fam_script.specs.Form.{is_played, is_played_service, is_played_program, is_played_statement, is_played_call, is_played_op}
 use Rattle.famrun.specs.Playing.{op_made, event_of, turn_events, reply_to, bytes_after}
@@ -71,17 +73,25 @@ play_more who front more asked history new_history lines new_lines bytes new_byt
     let grown : ops_of more ≡ ops ++ op_made asked ∷ [] = ap ops_of split ∙ map-append op_of front (One asked ∷ []) in
     rw (grown, e, f, g, number) next
 
--- a script without programs has run
-pub nothing_run : (script : Script) (history : List Event) → script.programs ≡ [] → history ≡ [] → IsRun common_rows script history
-nothing_run script history none e =
-    rw (none, e) (record { legal = refl; follows = refl; earned = record { numbers = refl; faults = λ low. le_refl 0 } })
+-- without an event every program follows its text so far
+follow_nothing : (entries : List (ℕ × Program)) → list_all (λ entry. follows entry.1 (calls [] entry.0)) entries ≡ true
+follow_nothing [] = refl
+follow_nothing (entry ∷ entries) = follow_nothing entries
+
+pub nothing_run : (script : Script) (history : List Event) → history ≡ [] → IsRun common_rows script history
+nothing_run script history e =
+    rw e (record {
+      legal = refl;
+      follows = follow_nothing (enumerate_from 0 script.programs);
+      earned = record { numbers = refl; faults = λ low. le_refl 0 };
+    })
 
 pub nothing_ends : (script : Script) (history : List Event) (lines : List ReplyLine) → script.programs ≡ [] → history ≡ [] → lines ≡ [] → EndsRun script history lines
 nothing_ends script history lines none e f =
     record {
-      run = nothing_run script history none e;
+      run = nothing_run script history e;
       ended = rw (none, e) refl;
-      replies = rw (none, e, f) refl;
+      replies = rw (none, f) refl;
     }
 
 -- one statement more

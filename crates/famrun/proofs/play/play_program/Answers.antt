@@ -1,9 +1,11 @@
-use Rattle.std.proofs.Common.{◌≡◌, ◌∙◌, ◌<◌, ◌≤◌, ◌+◌, ◌++◌, ◌∷◌, [], ℕ, refl, sym, ap, take, drop, length, arith, List, subst, vec_len}
+use Rattle.std.proofs.Common.{◌≡◌, ◌∙◌, ◌<◌, ◌≤◌, ◌+◌, ◌++◌, ◌∷◌, [], ℕ, true, refl, sym, ap, take, drop, length, arith, List, subst, vec_len}
 use Rattle.std.proofs.lemmas.List.{take_all, take-append-drop, length-take-le}
 use Rattle.fam_model.specs.declared.script.Statement.{Statement, One}
+use Rattle.std.specs.List.{list_all}
+use Rattle.fam_script.specs.Form.{is_played_call, is_played_statement}
 use Rattle.famrun.specs.Running.{ops_of, HasRun}
 use Rattle.famrun.proofs.Ends.{run_so_far}
-use Rattle.famrun.proofs.Plays.{is_one, play_more, take_next, on_err}
+use Rattle.famrun.proofs.Plays.{is_one, all_at, play_more, take_next, on_err}
 use Rattle.famrun.proofs.play.play_program.Goals as goal
 
 pub loop-statement-init : goal.loop-statement-init
@@ -29,6 +31,9 @@ loop-statement-preserved c =
     let there : i < length items = c.loop-statement-test.true in
     let all : length items ≡ length c.args.program.now.statements = ap length c.as_slice-statement-items.ensures in
     let few : length c.args.program.now.statements ≤ 64 = one.few in
+    let played : is_played_call c.in-One.asked ≡ true =
+        ap is_played_statement (sym c.in-One.is)
+        ∙ all_at items i c.statement-item.result (ap (list_all is_played_statement) c.as_slice-statement-items.ensures ∙ one.statements) there c.statement-item.is in
     let short : length (take i items) ≡ i = length-take-le i items (omega arith) in
     let split : take (i + 1) items ≡ take i items ++ One c.in-One.asked ∷ [] =
         take_next items i c.statement-item.result there c.statement-item.is ∙ ap (λ s. take i items ++ s ∷ []) c.in-One.is in
@@ -36,7 +41,7 @@ loop-statement-preserved c =
     c.loop-statement.run.history.items c.play_call.new.run.history.items
     c.loop-statement.run.lines.items c.play_call.new.run.lines.items
     c.loop-statement.run.item c.play_call.new.run.item (vec_len c.loop-statement.run.lines)
-    c.loop-statement.invariant c.play_call.requires.played (omega arith) c.loop-statement.run.lines.ok.0
+    c.loop-statement.invariant played (omega arith) c.loop-statement.run.lines.ok.0
     c.in_ok-play_call-in-One.ensures.history c.in_ok-play_call-in-One.ensures.lines c.in_ok-play_call-in-One.ensures.item split
 
 pub returns-clause-ok : goal.returns-clause-ok
