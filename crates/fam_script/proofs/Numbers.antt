@@ -57,9 +57,10 @@ pub number_is : (word : List ℕ) → IfSome (number_of word) (λ n. (n < 2 ^ 64
 number_is word = by_test (digits_value 10 word) (nat_lt (digits_value 10 word) (2 ^ 64) && bytes_eq (decimal (digits_value 10 word)) word) refl
   where
     by_test : (n : ℕ) (b : Bool) → (nat_lt n (2 ^ 64) && bytes_eq (decimal n) word) ≡ b → IfSome (when b n) (λ m. (m < 2 ^ 64) × (word ≡ decimal m))
-    by_test n true h =
-        (ltb-true _ _ (and_left (nat_lt n (2 ^ 64)) (bytes_eq (decimal n) word) h),
-        sym (same_bytes (decimal n) word (and_right (nat_lt n (2 ^ 64)) (bytes_eq (decimal n) word) h)))
+    by_test n true h = (
+      ltb-true _ _ (and_left (nat_lt n (2 ^ 64)) (bytes_eq (decimal n) word) h),
+      sym (same_bytes (decimal n) word (and_right (nat_lt n (2 ^ 64)) (bytes_eq (decimal n) word) h)),
+    )
     by_test n false h = tt
 
 -- a word of which nothing is read is the text of no number
