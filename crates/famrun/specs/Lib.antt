@@ -1,3 +1,4 @@
+pub mod Ending
 pub mod Item
 pub mod Playing
 pub mod Running

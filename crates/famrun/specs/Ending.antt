@@ -1,0 +1,163 @@
+-- How a simulation ends: its status, its output and its history.
+use Rattle.std.specs.Global.{Global}
+use Rattle.std.specs.Prelude.{Vec, Result, Ok, Err, ◌↔◌, IfSome, ◌≡◌, ℕ, ◌++◌, ◌∷◌, ◌+◌, ◌^◌, ◌<◌, ◌≤◌, ◌⊎◌, List, [], length, codes}
+use Rattle.std.specs.Fmt.{decimal}
+use Rattle.std.specs.Io.KnownBytes.{Appends, IsAtEnd}
+use Rattle.fam_base.specs.Causes.{Rose}
+use Rattle.fam_io.specs.State.{SourceState, SinkState, Moves, MovesUpTo, MovesExactly, AddsPrefix}
+use Rattle.fam_model.specs.declared.event.Event.{Event}
+use Rattle.fam_model.specs.declared.script.Script.{Script}
+use Rattle.fam_model.specs.Headline.{IsRun, HasEnded}
+use Rattle.fam_model.specs.ReportText.{report_of, report_text}
+use Rattle.fam_model.specs.Rows.{common_rows}
+use Rattle.fam_script.specs.BadLine.{IsBadLine}
+use Rattle.fam_script.specs.Form.{IsPlayedScript}
+use Rattle.fam_base.specs.declared.error.NoMemory.{NoMemory as NoMemoryError}
+use Rattle.famrun.specs.declared.ending.Ending.{Ending}
+use Rattle.famrun.specs.declared.ending.Ending.TheVariants.{Told, BadWords, BadLine, ReadFault, WriteFault, NoMemory, TooLong}
+
+-- the status of each ending
+abbrev pub status_of : Ending → ℕ
+status_of Told = 0
+status_of BadWords = 2
+status_of (BadLine n) = 3
+status_of ReadFault = 4
+status_of WriteFault = 5
+status_of NoMemory = 9
+status_of TooLong = 10
+
+-- words
+
+-- the words of `sim`: a seed below 2^64 in its decimal digits
+pub record IsSim (words : List (List ℕ)) : Type 0 where
+  pub seed : ℕ
+  pub low : seed < 2 ^ 64
+  pub words_are : words ≡ codes "sim" ∷ decimal seed ∷ []
+
+-- input
+
+-- the most bytes that an input may have
+abbrev pub input_limit : ℕ
+input_limit = 16_777_216
+
+-- the source was read to its end, and all that was left in it is the text of this script
+pub record ReadsScript (from to : SourceState) (script : Script) : Type 0 where
+  pub bytes : List ℕ
+  pub read : Moves from to bytes
+  pub end : IsAtEnd to.left
+  pub within : length bytes ≤ input_limit
+  pub is_script : IsPlayedScript bytes script
+
+-- the source was read to its end, and what was left in it is no script: line n is the first bad one
+pub record ReadsBadLine (from to : SourceState) (n : ℕ) : Type 0 where
+  pub bytes : List ℕ
+  pub read : Moves from to bytes
+  pub end : IsAtEnd to.left
+  pub within : length bytes ≤ input_limit
+  pub is_bad : IsBadLine bytes n
+
+-- output
+
+-- A line was written; it is whole unless the sink failed.
+pub record Tells (before after : SinkState) (line : List ℕ) : Type 0 where
+  pub front : AddsPrefix before after line
+  pub whole : Rose before.faults after.faults ⊎ Appends before.written after.written line
+
+-- the report of a history
+abbrev pub report : Script → List Event → List ℕ
+report script history = report_text (report_of (length script.programs) common_rows history)
+
+-- the run so far, or nothing yet
+abbrev pub IsSoFar : SourceState → SourceState → List Event → Type 0
+IsSoFar from to history =
+    (history ≡ []) ⊎ ((script : Script) × ReadsScript from to script × IsRun common_rows script history)
+
+-- the whole run of a script
+pub record RunsScript (from to : SourceState) (script : Script) (history : List Event) : Type 0 where
+  pub reads : ReadsScript from to script
+  pub run : IsRun common_rows script history
+  pub ended : HasEnded common_rows script history
+
+-- a simulation of what the source has left ends like this, with this history
+abbrev pub SimEnds : SourceState → SourceState → SinkState → SinkState → List Event → Ending → Type 0
+SimEnds from to before after history Told =
+    (script : Script) × RunsScript from to script history × Appends before.written after.written (report script history)
+SimEnds from to before after history WriteFault =
+    (script : Script) × RunsScript from to script history × AddsPrefix before after (report script history)
+    × Rose before.faults after.faults
+SimEnds from to before after history (BadLine n) =
+    ReadsBadLine from to n × (history ≡ []) × Tells before after (codes "bad line " ++ (decimal n ++ codes "\n"))
+SimEnds from to before after history ReadFault =
+    Rose from.faults to.faults × (history ≡ []) × Tells before after (codes "read fault\n")
+SimEnds from to before after history TooLong =
+    MovesExactly from to (input_limit + 1) × (history ≡ []) × Tells before after (codes "too long\n")
+SimEnds from to before after history NoMemory =
+    IsSoFar from to history × Tells before after (codes "no memory\n")
+SimEnds from to before after history BadWords = ⊥
+
+-- the outcome
+
+-- no call of the source and of the sink failed
+abbrev pub IsCalm : SourceState → SourceState → SinkState → SinkState → Type 0
+IsCalm from to before after = (¬ Rose from.faults to.faults) × (¬ Rose before.faults after.faults)
+
+-- What `sim` leaves: its status and its history.
+pub record SimOutcome (words : List (List ℕ)) (from to : SourceState) (before after : SinkState) (status : ℕ) (history : List Event) : Type 0 where
+  -- status 2 comes exactly where the words are not those of `sim`; nothing is read then
+  pub bad_words : (status ≡ 2) ↔ (¬ IsSim words)
+  pub refused : ¬ IsSim words → (to ≡ from) × (history ≡ []) × Tells before after (codes "bad words\n")
+  -- else it ends in one of these ways, with the status of that way
+  pub ends : IsSim words → (ending : Ending) × (status ≡ status_of ending) × SimEnds from to before after history ending
+  -- at most one byte more than an input may have is read
+  pub most : MovesUpTo from to (input_limit + 1)
+  -- a script is run and reported, unless a call of the outside fails or memory is wanting
+  pub complete : IsSim words → IsCalm from to before after →
+      IfSome from.left (λ bytes. length bytes ≤ input_limit → (script : Script) → IsPlayedScript bytes script → (status ≡ 0) ⊎ (status ≡ 9))
+  -- what is no script is told to be none
+  pub no_script : IsSim words → IsCalm from to before after →
+      IfSome from.left (λ bytes. length bytes ≤ input_limit → ((script : Script) → ¬ IsPlayedScript bytes script) → (status ≡ 3) ⊎ (status ≡ 9))
+  -- and an input with too many bytes to have them
+  pub too_long : IsSim words → IsCalm from to before after →
+      IfSome from.left (λ bytes. input_limit < length bytes → (status ≡ 10) ⊎ (status ≡ 9))
+
+-- a text is told, and nothing else happens; the status is 0 unless the sink failed
+pub record TellsText (from to : SourceState) (before after : SinkState) (status : ℕ) (history : List Event) (text : List ℕ) : Type 0 where
+  pub unread : to ≡ from
+  pub nothing : history ≡ []
+  pub told : AddsPrefix before after text
+  pub whole : status ≡ 0 → Appends before.written after.written text
+  pub status_is : (status ≡ 0) ⊎ ((status ≡ 5) × Rose before.faults after.faults)
+
+-- parts of a simulation, for the contracts of private functions
+
+-- why no script was read
+abbrev pub Unread : SourceState → SourceState → Ending → Type 0
+Unread from to (BadLine n) = ReadsBadLine from to n
+Unread from to ReadFault = Rose from.faults to.faults
+Unread from to TooLong = MovesExactly from to (input_limit + 1)
+Unread from to NoMemory = Unit {0}
+Unread from to _ = ⊥
+
+-- what is told of this, and how that ends: where there is no memory for the line, that is told
+abbrev pub IsTold : Ending → SinkState → SinkState → Ending → Type 0
+IsTold (BadLine n) before after (BadLine m) = (m ≡ n) × Tells before after (codes "bad line " ++ (decimal n ++ codes "\n"))
+IsTold ReadFault before after ReadFault = Tells before after (codes "read fault\n")
+IsTold TooLong before after TooLong = Tells before after (codes "too long\n")
+IsTold asked before after NoMemory = Tells before after (codes "no memory\n")
+IsTold asked before after _ = ⊥
+
+-- a text was written, or why not
+abbrev pub Writes : Result (Vec ℕ Global) NoMemoryError → SinkState → SinkState → Ending → Type 0
+Writes (Ok text) before after Told = Appends before.written after.written text.items
+Writes (Ok text) before after WriteFault = AddsPrefix before after text.items × Rose before.faults after.faults
+Writes (Err e) before after NoMemory = Tells before after (codes "no memory\n")
+Writes _ before after _ = ⊥
+
+-- a run was reported, or why not
+abbrev pub ReportsRun : Script → List Event → SinkState → SinkState → Ending → Type 0
+ReportsRun script history before after Told =
+    HasEnded common_rows script history × Appends before.written after.written (report script history)
+ReportsRun script history before after WriteFault =
+    HasEnded common_rows script history × AddsPrefix before after (report script history) × Rose before.faults after.faults
+ReportsRun script history before after NoMemory = Tells before after (codes "no memory\n")
+ReportsRun script history before after _ = ⊥

@@ -1,0 +1,64 @@
+//! The words of the program.
+
+ghost use Rattle.std.specs.Prelude.{◌≡◌, ◌∷◌, [], ◌≢◌, map, string_bytes, codes};
+ghost use Rattle.fam_io.specs.State.{no_source};
+ghost use Rattle.famrun.specs.Ending.{SimOutcome, TellsText};
+
+use crate::ending::Ending;
+use crate::sim::{Outcome, sim_main};
+use fam_io::{Sink, Source, write_all};
+use std::alloc::Global;
+
+/// What `--help` tells.
+pub const HELP: &str = "famrun: a shared memory service, played and proved
+
+usage:
+  famrun sim SEED      read a script, play it, and write the report of its run
+  famrun --help        this text
+  famrun --version     the version
+
+SEED is a number below 2^64 in decimal digits. The script comes on standard input.
+";
+
+/// What `--version` tells.
+pub const VERSION: &str = "famrun 0.1.0
+";
+
+/// The program's commands, by their words. `sim` goes by `sim_main`; `--help` and `--version` tell a text.
+pub fn fam_main<S: Source, K: Sink>(
+    alloc: Global,
+    words: &[String],
+    input: &mut S,
+    output: &mut K,
+) -> Outcome
+    ensures help { map string_bytes words.now ≡ codes "--help" ∷ [] →
+        TellsText (S.source input.old) (S.source input.new) (K.sink output.old) (K.sink output.new)
+            result.status result.history.items HELP.now }
+    ensures version { map string_bytes words.now ≡ codes "--version" ∷ [] →
+        TellsText (S.source input.old) (S.source input.new) (K.sink output.old) (K.sink output.new)
+            result.status result.history.items VERSION.now }
+    ensures sim { map string_bytes words.now ≢ codes "--help" ∷ [] → map string_bytes words.now ≢ codes "--version" ∷ [] →
+        SimOutcome (map string_bytes words.now) (S.source input.old) (S.source input.new)
+            (K.sink output.old) (K.sink output.new) result.status result.history.items }
+{
+    match words {
+        [word] if word.as_str() == "--help" => tell_text(alloc, output, HELP),
+        [word] if word.as_str() == "--version" => tell_text(alloc, output, VERSION),
+        _ => sim_main(alloc, words, input, output),
+    }
+}
+
+/// Writes a text.
+fn tell_text<K: Sink>(alloc: Global, output: &mut K, text: &str) -> Outcome
+    ensures { TellsText no_source no_source (K.sink output.old) (K.sink output.new)
+        result.status result.history.items text.now }
+{
+    let ending = match write_all(output, text.as_bytes()) {
+        Ok(()) => Ending::Told,
+        Err(_) => Ending::WriteFault,
+    };
+    Outcome {
+        status: ending.status(),
+        history: Vec::new(alloc),
+    }
+}
