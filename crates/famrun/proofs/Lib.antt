@@ -1,5 +1,6 @@
 pub mod Calls
 pub mod OnePiece
+pub mod Outcomes
 pub mod Placing
 pub mod Ends
 pub mod Follows
@@ -9,3 +10,4 @@ pub mod Runs
 pub mod Stepping
 pub mod Turns
 pub mod Whole
+pub mod Words

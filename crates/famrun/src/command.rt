@@ -1,6 +1,6 @@
 //! The words of the program.
 
-ghost use Rattle.std.specs.Prelude.{◌≡◌, ◌∷◌, [], ◌≢◌, map, string_bytes, codes};
+ghost use Rattle.std.specs.Prelude.{◌≡◌, ◌↔◌, ◌∷◌, [], ◌≢◌, map, string_bytes, codes, IsTrue};
 ghost use Rattle.fam_io.specs.State.{no_source};
 ghost use Rattle.famrun.specs.Ending.{SimOutcome, TellsText};
 
@@ -41,10 +41,22 @@ pub fn fam_main<S: Source, K: Sink>(
         SimOutcome (map string_bytes words.now) (S.source input.old) (S.source input.new)
             (K.sink output.old) (K.sink output.new) result.status result.history.items }
 {
+    if is_word(words, "--help") {
+        tell_text(alloc, output, HELP)
+    } else if is_word(words, "--version") {
+        tell_text(alloc, output, VERSION)
+    } else {
+        sim_main(alloc, words, input, output)
+    }
+}
+
+/// Whether the words are this one alone.
+fn is_word(words: &[String], word: &str) -> bool
+    ensures { IsTrue result ↔ (map string_bytes words.now ≡ word.now ∷ []) }
+{
     match words {
-        [word] if word.as_str() == "--help" => tell_text(alloc, output, HELP),
-        [word] if word.as_str() == "--version" => tell_text(alloc, output, VERSION),
-        _ => sim_main(alloc, words, input, output),
+        [only] => only.as_str() == word,
+        _ => false,
     }
 }
 

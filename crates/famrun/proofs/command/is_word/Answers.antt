@@ -1,0 +1,12 @@
+use Rattle.std.proofs.Common.{rules, ap, ◌≡◌, ◌↔◌, ◌∷◌, [], ◌≢◌, map, string_bytes, codes, IsTrue, ℕ, ◌+◌, ◌-◌, ◌*◌, ◌<◌, ◌≤◌, length, ◌/◌, ◌%◌, Bool, true, false, nat_eq, nat_lt, List, ◌++◌, slice_index_or, slice_set, bit_and, bit_or, Fits, w8, w32, w64, Bor, MutBor}
+use Rattle.fam_io.specs.State.{no_source}
+use Rattle.famrun.specs.Ending.{SimOutcome, TellsText}
+use Rattle.famrun.proofs.Words.{one_item, told_alone}
+use Rattle.famrun.proofs.command.is_word.Goals as goal
+
+-- src/command.rt:54:1
+pub returns-in-len1 : goal.returns-in-len1
+returns-in-len1 c =
+    let alone = one_item c.args.words.now c.only-item.result c.in-len1.len_at_least c.in-len1.len_below c.only-item.is in
+    told_alone (map string_bytes c.args.words.now) (string_bytes c.only-item.result) c.args.word.now c.as_str.result.now c.eq.result
+        (ap (map string_bytes) alone) c.as_str.ensures.value c.eq.ensures
