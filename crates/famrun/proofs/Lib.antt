@@ -1,6 +1,7 @@
 pub mod Calls
 pub mod OnePiece
 pub mod Outcomes
+pub mod Patterns
 pub mod Placing
 pub mod Ends
 pub mod Follows
@@ -10,4 +11,3 @@ pub mod Runs
 pub mod Stepping
 pub mod Turns
 pub mod Whole
-pub mod Words

@@ -5,7 +5,7 @@ use Rattle.fam_model.specs.Rows as rows_spec
 use Rattle.fam_script.specs.Form.{is_played}
 use Rattle.famrun.specs.Ending.{input_limit, IsSim, IsTold, ReadsScript, ReportsRun, SimEnds, SimOutcome, Tells, Unread, Writes}
 use Rattle.famrun.specs.Running.{EndsRun}
-use Rattle.famrun.proofs.Words.{two_items, told_sim}
+use Rattle.famrun.proofs.Patterns.{two_items, told_sim}
 use Rattle.famrun.proofs.sim.is_sim.Goals as goal
 
 -- src/sim.rt:36:1
