@@ -61,8 +61,11 @@ told_piece n op answer given later from =
     let first = event_of n (what.Issue (call_of op) reply.Issued) in
     let middle = event_of n (what.Piece 0 answer) in
     let last = event_of n (what.Answer given) in
-    rw (equal n, told_same n (first ∷ middle ∷ last ∷ later) later later
-    (λ k h. skipped n k first.what (middle ∷ last ∷ later) h ∙ skipped n k middle.what (last ∷ later) h ∙ skipped n k last.what later h) from) refl
+    rw (
+      equal n,
+      told_same n (first ∷ middle ∷ last ∷ later) later later
+          (λ k h. skipped n k first.what (middle ∷ last ∷ later) h ∙ skipped n k middle.what (last ∷ later) h ∙ skipped n k last.what later h) from,
+    ) refl
 
 -- the one call that a turn tells
 

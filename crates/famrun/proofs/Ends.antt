@@ -138,8 +138,8 @@ pub run_so_far : (script : Script) (program : Program) (front back : List Statem
     program.statements ≡ front ++ back → HasRun program.who (ops_of front) history lines bytes → IsRun common_rows script history
 run_so_far script program front back history lines bytes one service played split run =
     let follow : follows program (calls history 0) ≡ true =
-        ap (follows program) (told_whole program.who (ops_of front) history lines bytes run)
-        ∙ follows_on program [] (ops_of front) (ops_of back) [] (replies_of lines) [] (text_of program front back split played) refl run.count refl in
+    ap (follows program) (told_whole program.who (ops_of front) history lines bytes run)
+    ∙ follows_on program [] (ops_of front) (ops_of back) [] (replies_of lines) [] (text_of program front back split played) refl run.count refl in
     is_run script program history _ one service run.reached run.calm follow
 
 -- the end
@@ -202,17 +202,17 @@ run_ends script program history lines bytes n one service played run count few =
     let leave = event_of n what.Leave in
     let last = left_state who bytes run.done (n + 1) in
     let reached : state_after service_limits (start who) (history ++ leave ∷ []) ≡ Some last =
-        goes_on service_limits (start who) (state_with who bytes run.done n started.Nothing) history (leave ∷ [])
-        (run.reached ∙ ap (λ k. Some (state_with who bytes run.done k started.Nothing)) count)
-        ∙ leave_is_step who bytes run.done n stands low in
+    goes_on service_limits (start who) (state_with who bytes run.done n started.Nothing) history (leave ∷ [])
+    (run.reached ∙ ap (λ k. Some (state_with who bytes run.done k started.Nothing)) count)
+    ∙ leave_is_step who bytes run.done n stands low in
     let calm : list_all is_calm (history ++ leave ∷ []) ≡ true = list_all-append is_calm history (leave ∷ []) ∙ rw run.calm refl in
     let told : calls (history ++ leave ∷ []) 0 ≡ asked ops (replies_of lines) ++ (call.Leave, Some reply.Left) ∷ [] =
-        run.told (leave ∷ []) (rw count (le_refl n, tt)) in
+    run.told (leave ∷ []) (rw count (le_refl n, tt)) in
     let follow : follows program (calls (history ++ leave ∷ []) 0) ≡ true =
-        ap (follows program) told
-        ∙ follows_on program [] ops [] [] (replies_of lines) ((call.Leave, Some reply.Left) ∷ [])
-        (turns_played program.statements played ∙ ap (map (λ op. Once (call_of op))) (sym (append-nil ops))) refl run.count
-        (leaves program ops (replies_of lines) (turns_played program.statements played) run.count) in
+    ap (follows program) told
+    ∙ follows_on program [] ops [] [] (replies_of lines) ((call.Leave, Some reply.Left) ∷ [])
+    (turns_played program.statements played ∙ ap (map (λ op. Once (call_of op))) (sym (append-nil ops))) refl run.count
+    (leaves program ops (replies_of lines) (turns_played program.statements played) run.count) in
     let opens = opening_is script program one service in
     record {
       run = is_run script program _ last one service reached calm follow;

@@ -68,10 +68,10 @@ follows_on program before [] rest told (given ∷ replies) tail text e f h = cc
 follows_on program before (op ∷ ops) rest told [] tail text e f h = cc
 follows_on program before (op ∷ ops) rest told (given ∷ replies) tail text e f h =
     let next : next_call program told ≡ Some (call_of op) =
-        ap (λ turns. next_of turns told) text ∙ next_goes_on before op (ops ++ rest) told e in
+    ap (λ turns. next_of turns told) text ∙ next_goes_on before op (ops ++ rest) told e in
     let longer : length (told ++ given ∷ []) ≡ length (before ++ op ∷ []) = grind (arith, length-append told (given ∷ []), length-append before (op ∷ [])) in
     let regrouped : before ++ (op ∷ (ops ++ rest)) ≡ (before ++ op ∷ []) ++ (ops ++ rest) = sym (append_assoc before (op ∷ []) (ops ++ rest)) in
     let later = follows_on program (before ++ op ∷ []) ops rest (told ++ given ∷ []) replies tail
-        (text ∙ ap (map (λ o. Once (call_of o))) regrouped) longer (omega arith)
-        (subst (λ rs. follows_after program rs tail ≡ true) (sym (append_assoc told (given ∷ []) replies)) h) in
+    (text ∙ ap (map (λ o. Once (call_of o))) regrouped) longer (omega arith)
+    (subst (λ rs. follows_after program rs tail ≡ true) (sym (append_assoc told (given ∷ []) replies)) h) in
     rw (next, same_call_twice (call_of op), later) refl

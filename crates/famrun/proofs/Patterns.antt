@@ -31,12 +31,14 @@ pub told_sim : (words : List (List ℕ)) (name seed name_text seed_text : List �
     name_text ≡ name → true ≡ pointwise nat_eq name_text (codes "sim") → seed_text ≡ seed →
     IfSome found (λ n. (n < 2 ^ 64) × (seed_text ≡ decimal n)) → IfNone found ((n : ℕ) → n < 2 ^ 64 → seed_text ≢ decimal n) →
     r ≡ is_some found → IsTrue r ↔ IsSim words
-told_sim words name seed name_text seed_text (Some n) r two name_is is_name seed_is some none is =
-    (λ t. record {
-      seed = n;
-      low = some.0;
-      words_are = two ∙ ap (λ w. w ∷ seed ∷ []) (sym name_is ∙ same_text name_text (codes "sim") is_name)
-          ∙ ap (λ w. codes "sim" ∷ w ∷ []) (sym seed_is ∙ some.1);
-    }, λ sim. is)
+told_sim words name seed name_text seed_text (Some n) r two name_is is_name seed_is some none is = (
+  λ t. record {
+    seed = n;
+    low = some.0;
+    words_are = two ∙ ap (λ w. w ∷ seed ∷ []) (sym name_is ∙ same_text name_text (codes "sim") is_name)
+        ∙ ap (λ w. codes "sim" ∷ w ∷ []) (sym seed_is ∙ some.1);
+  },
+  λ sim. is,
+)
 told_sim words name seed name_text seed_text None r two name_is is_name seed_is some none is =
     (λ t. absurd (false≢true (sym is ∙ t)), λ sim. absurd (none sim.seed sim.low (seed_is ∙ ap (λ ws. get_or ws 1 seed) (sym two ∙ sim.words_are))))

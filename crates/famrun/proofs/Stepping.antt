@@ -107,9 +107,14 @@ piece_is_step who bytes done n m operations op piece given is all plain item ans
     let memory : MemoryOfItems = (record { 0 = 0 }, bytes) ∷ [] in
     let old = new_operation n 0 op true (piece ∷ []) in
     let new = with_answer old 0 piece given (bytes_found memory piece) in
-    rw (placed-newest who done n m operations old is all refl, may_come-newest operations n op piece plain,
-    due_answer-common memory who (plan_kind op) piece item, answer, served,
-    with_operation-newest operations old new all refl) refl
+    rw (
+      placed-newest who done n m operations old is all refl,
+      may_come-newest operations n op piece plain,
+      due_answer-common memory who (plan_kind op) piece item,
+      answer,
+      served,
+      with_operation-newest operations old new all refl,
+    ) refl
 
 -- the answer of an operation with nothing left
 pub answer_is_step : (who : Who) (bytes : List ℕ) (done : Done) (n m : ℕ) (operations : List Operation) (operation : Operation) (given : Reply) →

@@ -39,8 +39,14 @@ accepted_get who done n offset count ps stands few short inside cut one =
     let calls : nat_le 65536 done.data_calls ≡ false = (let low : done.data_calls ≤ n = stands.data_calls in grind arith) in
     let low : done.moved ≤ 64 * n = stands.moved in
     let little : done.pieces ≤ n = stands.pieces in
-    rw (le-ltb 1048576 count (omega arith), le-ltb 4096 (offset + count) inside, calls, le-ltb 4194304 (done.moved + count) (omega arith), cut,
-    le-ltb 65536 (done.pieces + length ps) (omega arith)) refl
+    rw (
+      le-ltb 1048576 count (omega arith),
+      le-ltb 4096 (offset + count) inside,
+      calls,
+      le-ltb 4194304 (done.moved + count) (omega arith),
+      cut,
+      le-ltb 65536 (done.pieces + length ps) (omega arith),
+    ) refl
 
 -- a get outside the item is refused
 pub refused_get : (who : Who) (done : Done) (n offset count : ℕ) → count ≤ 64 → nat_lt 4096 (offset + count) ≡ true →
@@ -55,8 +61,14 @@ accepted_put who done n offset bytes ps stands few short inside cut one =
     let calls : nat_le 65536 done.data_calls ≡ false = (let low : done.data_calls ≤ n = stands.data_calls in grind arith) in
     let low : done.moved ≤ 64 * n = stands.moved in
     let little : done.pieces ≤ n = stands.pieces in
-    rw (le-ltb 1048576 (length bytes) (omega arith), le-ltb 4096 (offset + length bytes) inside, calls, le-ltb 4194304 (done.moved + length bytes) (omega arith), cut,
-    le-ltb 65536 (done.pieces + length ps) (omega arith)) refl
+    rw (
+      le-ltb 1048576 (length bytes) (omega arith),
+      le-ltb 4096 (offset + length bytes) inside,
+      calls,
+      le-ltb 4194304 (done.moved + length bytes) (omega arith),
+      cut,
+      le-ltb 65536 (done.pieces + length ps) (omega arith),
+    ) refl
 
 pub refused_put : (who : Who) (done : Done) (n offset : ℕ) (bytes : List ℕ) → length bytes ≤ 64 → nat_lt 4096 (offset + length bytes) ≡ true →
     issue_refusal one_stripe (program_with who done n started.Nothing) (call_of (data_op.Put 0 offset bytes)) ≡ Some Range
@@ -93,8 +105,10 @@ pub empty_turn : (who : Who) (bytes : List ℕ) (done : Done) (n : ℕ) (op : Da
     (event_of n (what.Issue (call_of op) reply.Issued) ∷ event_of n (what.Answer given) ∷ [])
     ≡ Some (state_with who bytes (finished done op 0 (new_operation n 0 op true [])) (n + 1) started.Nothing)
 empty_turn who bytes done n op given shaped slots accepted cut low all same =
-    rw (issue_is_step who bytes done n op [] shaped slots accepted cut low,
-    answer_is_step who bytes (issued done n op []) n (n + 1) done.operations (new_operation n 0 op true []) given refl all refl refl same) refl
+    rw (
+      issue_is_step who bytes done n op [] shaped slots accepted cut low,
+      answer_is_step who bytes (issued done n op []) n (n + 1) done.operations (new_operation n 0 op true []) given refl all refl refl same,
+    ) refl
 
 -- an accepted call with one piece: the piece is answered, and then the call
 pub piece_turn : (who : Who) (bytes after : List ℕ) (done : Done) (n : ℕ) (op : DataOp) (piece : PlanPiece) (answer : PieceAnswer) (given : Reply) →
@@ -110,8 +124,10 @@ pub piece_turn : (who : Who) (bytes after : List ℕ) (done : Done) (n : ℕ) (o
     (event_of n (what.Issue (call_of op) reply.Issued) ∷ event_of n (what.Piece 0 answer) ∷ event_of n (what.Answer given) ∷ [])
     ≡ Some (state_with who after (finished done op 1 (answered_operation n op piece answer bytes)) (n + 1) started.Nothing)
 piece_turn who bytes after done n op piece answer given shaped slots accepted cut low all plain item answers served memory over same =
-    rw (issue_is_step who bytes done n op (piece ∷ []) shaped slots accepted cut low,
-    piece_is_step who bytes (issued done n op (piece ∷ [])) n (n + 1) done.operations op piece answer refl all plain item answers served,
-    memory,
-    answer_is_step who after (record (issued done n op (piece ∷ [])) { operations = done.operations ++ answered_operation n op piece answer bytes ∷ [] })
-    n (n + 1) done.operations (answered_operation n op piece answer bytes) given refl all refl over same) refl
+    rw (
+      issue_is_step who bytes done n op (piece ∷ []) shaped slots accepted cut low,
+      piece_is_step who bytes (issued done n op (piece ∷ [])) n (n + 1) done.operations op piece answer refl all plain item answers served,
+      memory,
+      answer_is_step who after (record (issued done n op (piece ∷ [])) { operations = done.operations ++ answered_operation n op piece answer bytes ∷ [] })
+          n (n + 1) done.operations (answered_operation n op piece answer bytes) given refl all refl over same,
+    ) refl

@@ -33,13 +33,13 @@ pub fn fam_main<S: Source, K: Sink>(
 ) -> Outcome
     ensures help { map string_bytes words.now ≡ codes "--help" ∷ [] →
         TellsText (S.source input.old) (S.source input.new) (K.sink output.old) (K.sink output.new)
-            result.status result.history.items HELP.now }
+        result.status result.history.items HELP.now }
     ensures version { map string_bytes words.now ≡ codes "--version" ∷ [] →
         TellsText (S.source input.old) (S.source input.new) (K.sink output.old) (K.sink output.new)
-            result.status result.history.items VERSION.now }
+        result.status result.history.items VERSION.now }
     ensures sim { map string_bytes words.now ≢ codes "--help" ∷ [] → map string_bytes words.now ≢ codes "--version" ∷ [] →
         SimOutcome (map string_bytes words.now) (S.source input.old) (S.source input.new)
-            (K.sink output.old) (K.sink output.new) result.status result.history.items }
+        (K.sink output.old) (K.sink output.new) result.status result.history.items }
 {
     if is_word(words, "--help") {
         tell_text(alloc, output, HELP)

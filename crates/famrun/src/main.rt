@@ -17,10 +17,9 @@ use crate::command::fam_main;
 use crate::ending::Ending;
 use crate::sim::tell;
 use fam_io::{Reader, Writer};
-use std::env;
-use std::io;
 use std::io::ErrorKind;
 use std::process::ExitCode;
+use std::{env, io};
 
 /// The words after the program's name.
 fn words(rt: &HostRuntime) -> io::Result<Vec<String>> {

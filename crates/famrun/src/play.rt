@@ -77,7 +77,12 @@ fn leave(run: &mut Run) -> Result<(), NoMemory>
 }
 
 /// Plays a script's one program from its first statement to its last.
-fn play_program(alloc: Global, run: &mut Run, program: &Program, script: &Script) -> Result<(), NoMemory>
+fn play_program(
+    alloc: Global,
+    run: &mut Run,
+    program: &Program,
+    script: &Script,
+) -> Result<(), NoMemory>
     requires played { is_played script.now ≡ true }
     requires one { script.now.programs ≡ program.now ∷ [] }
     requires fresh { HasRun program.now.who [] run.old.history.items run.old.lines.items run.old.item }
@@ -96,7 +101,12 @@ fn play_program(alloc: Global, run: &mut Run, program: &Program, script: &Script
 }
 
 /// Plays a script's one program, and leaves.
-fn play_to_end(alloc: Global, run: &mut Run, program: &Program, script: &Script) -> Result<(), NoMemory>
+fn play_to_end(
+    alloc: Global,
+    run: &mut Run,
+    program: &Program,
+    script: &Script,
+) -> Result<(), NoMemory>
     requires played { is_played script.now ≡ true }
     requires one { script.now.programs ≡ program.now ∷ [] }
     requires fresh { HasRun program.now.who [] run.old.history.items run.old.lines.items run.old.item }

@@ -4,9 +4,11 @@ use crate::command::{HELP, VERSION, fam_main};
 use fam_base::{Bytes, Places};
 use fam_io::{MemSink, MemSource};
 use std::alloc::Global;
+use std::process::Abort;
 use std::test::Fail;
 
 /// A run of the program.
+#[derive(Drop)]
 struct Run<'a> {
     words: &'a [&'a str],
     input: &'a [u8],
@@ -37,10 +39,12 @@ fn strings(alloc: Global, words: &[&str]) -> Result<Vec<String>, Fail> {
 }
 
 /// Runs the program and compares its status and its output.
-fn check(rt: &HostRuntime, run: &Run) -> Result<(), Fail> {
-    let alloc = rt.alloc();
+fn check(rt: &impl Abort, alloc: Global, run: &Run) -> Result<(), Fail> {
     let words = strings(alloc, run.words)?;
-    let mut input = MemSource::new(Bytes::of(alloc, run.input)?, Places::of(alloc, run.failing_reads)?);
+    let mut input = MemSource::new(
+        Bytes::of(alloc, run.input)?,
+        Places::of(alloc, run.failing_reads)?,
+    );
     let mut output = MemSink::new(alloc, Places::of(alloc, run.failing_writes)?);
     let outcome = fam_main(alloc, &words, &mut input, &mut output);
     assert_eq!(rt; outcome.status, run.status);
@@ -61,11 +65,13 @@ const EXAMPLE_REPORT: &[u8] = b"replies
 0.1 ok 01020304
 0.2 left
 opening 1 1
-events 5
-0.0 issue put c0 i0 0 01020304
-0.0 serve 0 0
-0.1 issue get c0 i0 0 4
-0.1 serve 0 0 : 01020304
+events 7
+0.0 issue put c0 i0 0 01020304 : issued
+0.0 piece 0 : ok
+0.0 answer : ok
+0.1 issue get c0 i0 0 4 : issued
+0.1 piece 0 : ok 01020304
+0.1 answer : ok 01020304
 0.2 leave
 done
 ";
@@ -80,7 +86,7 @@ fn plays_scripts(rt: HostRuntime) -> Result<(), Fail> {
         ),
         (
             b"service 1 1 64\npe 5 5\nput c0 i0 4096 -\nget c0 i0 4096 0\nend\nstop\n",
-            b"replies\n0.0 ok\n0.1 ok -\n0.2 left\nopening 1 1\nevents 3\n0.0 issue put c0 i0 4096 -\n0.1 issue get c0 i0 4096 0\n0.2 leave\ndone\n",
+            b"replies\n0.0 ok\n0.1 ok -\n0.2 left\nopening 1 1\nevents 5\n0.0 issue put c0 i0 4096 - : issued\n0.0 answer : ok\n0.1 issue get c0 i0 4096 0 : issued\n0.1 answer : ok -\n0.2 leave\ndone\n",
         ),
         (
             b"service 1 1 64\npe 5 5\nput c0 i0 4096 01\nput c0 i0 18446744073709551615 01\nend\nstop\n",
@@ -88,7 +94,7 @@ fn plays_scripts(rt: HostRuntime) -> Result<(), Fail> {
         ),
     ];
     for (script, report) in table {
-        check(&rt, &sim(script, 0, report))?;
+        check(&rt, rt.alloc(), &sim(script, 0, report))?;
     }
     Ok(())
 }
@@ -101,13 +107,16 @@ fn refuses_inputs(rt: HostRuntime) -> Result<(), Fail> {
         (b"service 1 1 100\nstop\n", b"bad line 1\n"),
         (b"service 1 1 64\n", b"bad line 2\n"),
         (b"service 1 1 64\nstop\nstop\n", b"bad line 3\n"),
-        (b"service 1 1 64\npe 5 5\nget c0 i0 00 4\nend\nstop\n", b"bad line 3\n"),
+        (
+            b"service 1 1 64\npe 5 5\nget c0 i0 00 4\nend\nstop\n",
+            b"bad line 3\n",
+        ),
     ];
     for (script, told) in table {
-        check(&rt, &sim(script, 3, told))?;
+        check(&rt, rt.alloc(), &sim(script, 3, told))?;
     }
     let long = vec![in rt.alloc(); b'#'; 16_777_217]?;
-    check(&rt, &sim(&long, 10, b"too long\n"))
+    check(&rt, rt.alloc(), &sim(&long, 10, b"too long\n"))
 }
 
 #[test]
@@ -129,7 +138,7 @@ fn goes_by_its_words(rt: HostRuntime) -> Result<(), Fail> {
             output,
             ..sim(EXAMPLE, 0, b"")
         };
-        check(&rt, &run)?;
+        check(&rt, rt.alloc(), &run)?;
     }
     Ok(())
 }
@@ -153,7 +162,7 @@ fn tells_of_faults(rt: HostRuntime) -> Result<(), Fail> {
             status,
             output,
         };
-        check(&rt, &run)?;
+        check(&rt, rt.alloc(), &run)?;
     }
     Ok(())
 }

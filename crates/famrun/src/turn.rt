@@ -128,7 +128,13 @@ fn get_turn(
     let mut found = zero_bytes(alloc, count)?;
     item.read(offset, &mut found);
     let answer = PieceAnswer::Data(Bytes::of(alloc, &found)?);
-    served(alloc, number, asked, answer, Reply::Bytes(Bytes::from_vec(found)))
+    served(
+        alloc,
+        number,
+        asked,
+        answer,
+        Reply::Bytes(Bytes::from_vec(found)),
+    )
 }
 
 /// A put of bytes over those from an offset on.

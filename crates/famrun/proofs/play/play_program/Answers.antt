@@ -17,7 +17,7 @@ returns-in_err-play_call-in-One-clause-err c =
     let items : List Statement = c.as_slice-statement-items.result.now in
     let i : ℕ = c.loop-statement.statement-index in
     let split : c.args.program.now.statements ≡ take i items ++ drop i items =
-        sym c.as_slice-statement-items.ensures ∙ sym (take-append-drop i items) in
+    sym c.as_slice-statement-items.ensures ∙ sym (take-append-drop i items) in
     on_err c.from_residual.result
     (rw c.in_err-play_call-in-One.ensures.err
     (run_so_far c.args.script.now c.args.program.now (take i items) (drop i items) c.loop-statement.run.history.items
@@ -32,11 +32,11 @@ loop-statement-preserved c =
     let all : length items ≡ length c.args.program.now.statements = ap length c.as_slice-statement-items.ensures in
     let few : length c.args.program.now.statements ≤ 64 = one.few in
     let played : is_played_call c.in-One.asked ≡ true =
-        ap is_played_statement (sym c.in-One.is)
-        ∙ all_at items i c.statement-item.result (ap (list_all is_played_statement) c.as_slice-statement-items.ensures ∙ one.statements) there c.statement-item.is in
+    ap is_played_statement (sym c.in-One.is)
+    ∙ all_at items i c.statement-item.result (ap (list_all is_played_statement) c.as_slice-statement-items.ensures ∙ one.statements) there c.statement-item.is in
     let short : length (take i items) ≡ i = length-take-le i items (omega arith) in
     let split : take (i + 1) items ≡ take i items ++ One c.in-One.asked ∷ [] =
-        take_next items i c.statement-item.result there c.statement-item.is ∙ ap (λ s. take i items ++ s ∷ []) c.in-One.is in
+    take_next items i c.statement-item.result there c.statement-item.is ∙ ap (λ s. take i items ++ s ∷ []) c.in-One.is in
     play_more c.args.program.now.who (take i items) (take (i + 1) items) c.in-One.asked
     c.loop-statement.run.history.items c.play_call.new.run.history.items
     c.loop-statement.run.lines.items c.play_call.new.run.lines.items

@@ -19,5 +19,5 @@ returns-clause-err c =
     let one = is_one c.args.script.now c.args.program.now c.requires.played c.requires.one in
     let run = c.play_program.new.run in
     let so_far = run_so_far c.args.script.now c.args.program.now c.args.program.now.statements [] run.history.items run.lines.items run.item
-        one.one one.service one.statements (sym (append-nil c.args.program.now.statements)) c.in_ok-play_program.ensures.ok in
+    one.one one.service one.statements (sym (append-nil c.args.program.now.statements)) c.in_ok-play_program.ensures.ok in
     on_err_weaker c.leave.result (λ same. rw same so_far) c.leave.ensures.err

@@ -13,5 +13,5 @@ pub returns-then-eq : goal.returns-then-eq
 returns-then-eq c =
     let both = two_items c.args.words.now c.name-item.result c.seed-item.result c.in-len2.len_at_least c.in-len2.len_below c.name-item.is c.seed-item.is in
     told_sim (map string_bytes c.args.words.now) (string_bytes c.name-item.result) (string_bytes c.seed-item.result) c.as_str.result.now
-        c.as_bytes.result.now c.number_in.result c.is_some.result (ap (map string_bytes) both) c.as_str.ensures.value c.if-eq.ensures
-        c.as_bytes.ensures.value c.number_in.ensures.some c.number_in.ensures.none c.is_some.ensures
+    c.as_bytes.result.now c.number_in.result c.is_some.result (ap (map string_bytes) both) c.as_str.ensures.value c.if-eq.ensures
+    c.as_bytes.ensures.value c.number_in.ensures.some c.number_in.ensures.none c.is_some.ensures
