@@ -1,6 +1,6 @@
 -- What a run of the player is to the machine: one legal history, so far and at its end.
-use Rattle.std.proofs.Common.{◌≡◌, ℕ, zero, suc, ◌+◌, ◌<◌, ◌≤◌, Bool, true, false, List, [], ◌∷◌, ◌++◌, refl, sym, ap, ◌∙◌, arith, length, append_assoc, append-nil, length-append, subst, le_refl, add-zero}
-use Rattle.std.specs.Prelude.{◌==◌, ◌&&◌, nat_lt, Option, Some, None, is_some, is_none, map, fold, if◌then◌else◌}
+use Rattle.std.proofs.Common.{◌≡◌, ℕ, ◌+◌, ◌≤◌, true, false, List, [], ◌∷◌, ◌++◌, refl, sym, ap, ◌∙◌, arith, length, append-nil, subst, le_refl, add-zero}
+use Rattle.std.specs.Prelude.{◌==◌, ◌&&◌, nat_lt, Option, Some, None, is_none, map, fold, if◌then◌else◌}
 use Rattle.std.specs.List.{list_all, list_any, flat_map, filter_map, enumerate_from}
 use Rattle.std.proofs.lemmas.Bool.{eqb-true}
 use Rattle.std.proofs.lemmas.List.{map-append}
@@ -24,22 +24,22 @@ use Rattle.fam_model.specs.declared.state.Started.TheVariants as started
 use Rattle.fam_model.specs.declared.state.ProgramState.{ProgramState}
 use Rattle.fam_model.specs.declared.state.State.{State}
 use Rattle.fam_base.specs.declared.error.FamError.{FamError}
-use Rattle.fam_model.specs.Earned.{Moment, IsEarned, is_earned_from, is_earned_event, is_disk_fault, error_of, are_earned}
-use Rattle.fam_model.specs.Headline.{opening, follows_script, IsRun, HasEnded}
+use Rattle.fam_model.specs.Earned.{Moment, IsEarned, is_earned_from, is_earned_event, is_disk_fault, error_of}
+use Rattle.fam_model.specs.Headline.{opening, IsRun}
 use Rattle.fam_model.specs.History.{state_after, calls, is_over}
 use Rattle.fam_model.specs.Limits.{Limits, service_limits, number_end}
-use Rattle.fam_model.specs.Lists.{◌>>=◌, is_some_and}
-use Rattle.fam_model.specs.Operations.{has_left, is_pending}
+use Rattle.fam_model.specs.Lists.{◌>>=◌}
+use Rattle.fam_model.specs.Operations.{has_left}
 use Rattle.fam_model.specs.Programs.{program_of}
 use Rattle.fam_model.specs.ReportText.{reply_lines, numbered}
 use Rattle.fam_model.specs.Rows.{common_rows}
 use Rattle.fam_model.specs.Step.{step}
-use Rattle.fam_model.specs.Text.{Asked, Once, written_out, follows, follows_after, next_of, next_call}
-use Rattle.fam_script.specs.Form.{is_played, is_played_service, is_played_program, is_played_statement}
+use Rattle.fam_model.specs.Text.{Once, written_out, follows, follows_after, next_of, next_call}
+use Rattle.fam_script.specs.Form.{is_played_service, is_played_statement}
 use Rattle.famrun.specs.Playing.{call_of, event_of}
 use Rattle.famrun.specs.Running.{HasRun, EndsRun, asked, is_calm, op_of, ops_of, replies_of, line_of, lines_from}
 use Rattle.famrun.specs.Standing.{one_stripe, start, Done, program_with, state_with, AllAnswered}
-use Rattle.famrun.proofs.Follows.{turns_played, follows_on, next_leaves, and_both, same_call_twice}
+use Rattle.famrun.proofs.Follows.{turns_played, follows_on, next_leaves, and_both}
 use Rattle.famrun.proofs.Placing.{equal}
 use Rattle.famrun.proofs.Runs.{goes_on, lines_from-append}
 

@@ -1,18 +1,17 @@
 -- The calls of a run follow the program's text.
-use Rattle.std.proofs.Common.{◌≡◌, ℕ, zero, suc, ◌+◌, ◌<◌, ◌≤◌, Bool, true, false, List, [], ◌∷◌, ◌++◌, refl, sym, ap, ◌∙◌, arith, length, append_assoc, append-nil, length-append, subst}
-use Rattle.std.specs.Prelude.{◌==◌, ◌&&◌, Option, Some, None, map}
+use Rattle.std.proofs.Common.{◌≡◌, Bool, true, false, List, [], ◌∷◌, ◌++◌, refl, sym, ap, ◌∙◌, arith, length, append_assoc, append-nil, length-append, subst}
+use Rattle.std.specs.Prelude.{◌==◌, ◌&&◌, Some, map}
 use Rattle.std.specs.List.{list_all, flat_map}
 use Rattle.std.proofs.lemmas.Bool.{eqb-true}
 use Rattle.fam_model.specs.declared.call.Call.{Call}
 use Rattle.fam_model.specs.declared.call.Call.TheVariants as call
 use Rattle.fam_model.specs.declared.call.DataOp.{DataOp}
 use Rattle.fam_model.specs.declared.reply.Reply.{Reply}
-use Rattle.fam_model.specs.declared.reply.Reply.TheVariants as reply
 use Rattle.fam_model.specs.declared.script.Program.{Program}
 use Rattle.fam_model.specs.declared.script.Statement.{Statement, One, Repeat', Spin}
 use Rattle.fam_model.specs.contracts.call.CallEq.TheImpl.Laws as call_laws
-use Rattle.fam_model.specs.Text.{Turn, Once, Asked, written_out, next_of, next_call, is_call, follows, follows_after}
-use Rattle.fam_script.specs.Form.{is_played_op, is_played_call, is_played_statement}
+use Rattle.fam_model.specs.Text.{Once, Asked, written_out, next_of, next_call, is_call, follows_after}
+use Rattle.fam_script.specs.Form.{is_played_op, is_played_statement}
 use Rattle.famrun.specs.Playing.{call_of}
 use Rattle.famrun.specs.Running.{op_of, ops_of, asked}
 

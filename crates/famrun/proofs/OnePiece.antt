@@ -1,13 +1,10 @@
 -- A range inside one unit has one piece.
-use Rattle.std.proofs.Common.{◌≡◌, ℕ, zero, suc, ◌+◌, ◌-◌, ◌*◌, ◌/◌, ◌%◌, ◌<◌, ◌≤◌, Bool, true, false, List, [], ◌∷◌, ◌++◌, refl, sym, ap, ◌∙◌, arith, length, take, drop}
-use Rattle.std.specs.Prelude.{◌==◌, filter, cond, slice_range}
+use Rattle.std.proofs.Common.{◌≡◌, ℕ, zero, suc, ◌+◌, ◌-◌, ◌*◌, ◌/◌, ◌%◌, ◌<◌, ◌≤◌, true, false, List, [], ◌∷◌, refl, arith, length}
+use Rattle.std.specs.Prelude.{◌==◌, filter}
 use Rattle.std.proofs.Math.Seq.{take-length}
 use Rattle.std.specs.List.{range_with_len}
 use Rattle.fam_base.specs.declared.naming.Descriptor.{Descriptor}
 use Rattle.fam_model.specs.declared.call.DataOp.TheVariants as data_op
-use Rattle.fam_model.specs.declared.piece.Part.{Part}
-use Rattle.fam_model.specs.declared.piece.PieceKind.TheVariants as kind
-use Rattle.fam_model.specs.declared.piece.PlanPiece.{PlanPiece}
 use Rattle.fam_model.specs.Pieces.{cuts, is_border, part, pieces, read_piece, write_piece}
 use Rattle.fam_model.specs.Rows.{common_item, descriptor_of}
 use Rattle.famrun.specs.Standing.{one_stripe}

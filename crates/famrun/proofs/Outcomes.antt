@@ -1,11 +1,9 @@
 -- Every ending of a simulation is one that its contract allows.
-use Rattle.std.proofs.Common.{◌≡◌, ◌↔◌, ℕ, zero, suc, ◌+◌, ◌<◌, ◌≤◌, ◌^◌, Bool, true, false, List, [], ◌∷◌, ◌++◌, refl, sym, ap, ◌∙◌, arith, inl, inr, ◌⊎◌, length, length-append, append-nil, subst, get_or}
-use Rattle.std.specs.Prelude.{Option, Some, None, IfSome, IfNone, is_some, map, string_bytes, codes, ◌≢◌}
-use Rattle.std.specs.Fmt.{decimal}
-use Rattle.std.specs.Io.KnownBytes.{Appends, Consumes, IsAtEnd}
+use Rattle.std.proofs.Common.{◌≡◌, ℕ, ◌+◌, ◌<◌, ◌≤◌, List, [], ◌++◌, refl, sym, ap, ◌∙◌, arith, inl, inr, ◌⊎◌, length, length-append, append-nil, subst}
+use Rattle.std.specs.Prelude.{Option, Some, None, IfSome, codes, ◌≢◌}
+use Rattle.std.specs.Io.KnownBytes.{Consumes, IsAtEnd}
 use Rattle.std.proofs.KnownBytes.{Consumes-nil, Appends-nil}
-use Rattle.fam_io.specs.State.{SourceState, SinkState, Moves, MovesUpTo, MovesExactly, AddsPrefix}
-use Rattle.fam_base.specs.Causes.{Rose}
+use Rattle.fam_io.specs.State.{SourceState, SinkState, Moves, MovesUpTo, MovesExactly}
 use Rattle.fam_model.specs.declared.event.Event.{Event}
 use Rattle.fam_model.specs.declared.script.Script.{Script}
 use Rattle.fam_script.specs.Form.{IsPlayedScript}

@@ -1,15 +1,15 @@
 -- An operation behind those of earlier calls is found by its number.
-use Rattle.std.proofs.Common.{◌≡◌, ℕ, zero, suc, ◌+◌, ◌<◌, ◌≤◌, Bool, true, false, List, [], ◌∷◌, ◌++◌, refl, sym, ap, ◌∙◌, arith, length, length-append, set}
-use Rattle.std.specs.Prelude.{◌==◌, ◌||◌, ◌&&◌, not, cond, nat_lt, nat_le, Option, Some, slice_get}
-use Rattle.std.specs.List.{list_all, list_any, prefix_len}
+use Rattle.std.proofs.Common.{◌≡◌, ℕ, ◌<◌, true, false, List, [], ◌∷◌, ◌++◌, refl, arith, length, length-append}
+use Rattle.std.specs.Prelude.{◌==◌, ◌||◌, not, nat_lt, nat_le, Some, slice_get}
+use Rattle.std.specs.List.{list_all, prefix_len}
 use Rattle.std.proofs.Math.Bool.{or-true}
 use Rattle.std.proofs.Math.Dec.{leb-zero}
 use Rattle.std.proofs.Math.Seq.{set-append_seam}
 use Rattle.fam_model.specs.declared.piece.Operation.{Operation}
-use Rattle.fam_model.specs.Lists.{place_of, find_number, change_number, ◌>>=◌}
-use Rattle.fam_model.specs.Operations.{has_left, is_past_fences}
+use Rattle.fam_model.specs.Lists.{place_of}
+use Rattle.fam_model.specs.Operations.{has_left}
 use Rattle.fam_model.specs.Programs.{call_number, has_operation, operation_of, with_operation}
-use Rattle.famrun.specs.Standing.{IsAnswered, AllAnswered, context_with}
+use Rattle.famrun.specs.Standing.{AllAnswered, context_with}
 
 unequal : (x n : ℕ) → x < n → (x == n) ≡ false
 unequal x n h = grind arith

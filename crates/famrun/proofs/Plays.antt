@@ -1,6 +1,6 @@
 -- The player's loop, and its ends.
-use Rattle.std.proofs.Common.{◌≡◌, ℕ, zero, suc, ◌+◌, ◌<◌, ◌≤◌, Bool, true, false, List, [], ◌∷◌, ◌++◌, refl, sym, ap, ◌∙◌, arith, length, append-nil, subst, get_or, take, drop, le_refl, vec_len}
-use Rattle.std.specs.Prelude.{◌==◌, ◌&&◌, nat_le, map, Result, Ok, Err, OnOk, OnErr}
+use Rattle.std.proofs.Common.{◌≡◌, ℕ, zero, suc, ◌+◌, ◌<◌, ◌≤◌, true, List, [], ◌∷◌, ◌++◌, refl, sym, ap, ◌∙◌, arith, length, get_or, take, le_refl}
+use Rattle.std.specs.Prelude.{◌==◌, ◌&&◌, nat_le, Result, Ok, Err, OnOk, OnErr}
 use Rattle.std.specs.List.{list_all, enumerate_from}
 use Rattle.std.proofs.lemmas.Bool.{leb-true}
 use Rattle.std.proofs.lemmas.List.{map-append, length-map, take_more}
@@ -21,7 +21,7 @@ use Rattle.fam_model.specs.Rows.{common_rows}
 use Rattle.fam_script.specs.Form.{is_played, is_played_service, is_played_program, is_played_statement, is_played_call, is_played_op}
 use Rattle.famrun.specs.Playing.{op_made, event_of, turn_events, reply_to, bytes_after}
 use Rattle.famrun.specs.Running.{HasRun, EndsRun, op_of, ops_of, replies_of, line_of}
-use Rattle.famrun.proofs.Ends.{run_so_far, run_ends}
+use Rattle.famrun.proofs.Ends.{run_ends}
 use Rattle.famrun.proofs.Follows.{and_both}
 use Rattle.famrun.proofs.Runs.{run_goes_on}
 

@@ -1,13 +1,11 @@
 -- A run starts, goes on by one turn, and ends.
-use Rattle.std.proofs.Common.{◌≡◌, ℕ, zero, suc, ◌+◌, ◌<◌, ◌≤◌, Bool, true, false, List, [], ◌∷◌, ◌++◌, refl, sym, ap, ◌∙◌, arith, length, append_assoc, le_refl, length-append, subst, add-zero, zero-add}
-use Rattle.std.specs.Prelude.{◌==◌, ◌&&◌, Option, Some, None, replicate, map}
-use Rattle.std.specs.List.{list_all, list_any}
+use Rattle.std.proofs.Common.{◌≡◌, ℕ, suc, ◌+◌, ◌<◌, true, List, [], ◌∷◌, ◌++◌, refl, sym, ap, ◌∙◌, arith, length, append_assoc, le_refl, length-append, subst, add-zero, zero-add}
+use Rattle.std.specs.Prelude.{Some, replicate}
 use Rattle.std.proofs.lemmas.List.{map-append}
 use Rattle.std.proofs.lemmas.List.Folds.{list_all-append}
 use Rattle.fam_base.specs.declared.naming.Who.{Who}
 use Rattle.fam_model.specs.declared.call.DataOp.{DataOp}
 use Rattle.fam_model.specs.declared.event.Event.{Event}
-use Rattle.fam_model.specs.declared.event.What.TheVariants as what
 use Rattle.fam_model.specs.declared.reply.Reply.{Reply}
 use Rattle.fam_model.specs.declared.report.ReplyLine.{ReplyLine}
 use Rattle.fam_model.specs.declared.state.Started.TheVariants as started
@@ -15,10 +13,9 @@ use Rattle.fam_model.specs.declared.state.State.{State}
 use Rattle.fam_model.specs.History.{state_after, calls}
 use Rattle.fam_model.specs.Limits.{Limits, service_limits}
 use Rattle.fam_model.specs.Lists.{◌>>=◌}
-use Rattle.fam_model.specs.Step.{step}
 use Rattle.fam_model.specs.Text.{Asked}
 use Rattle.fam_script.specs.Form.{is_played_op}
-use Rattle.famrun.specs.Playing.{turn_events, reply_to, bytes_after, call_of, event_of}
+use Rattle.famrun.specs.Playing.{turn_events, reply_to, bytes_after, call_of}
 use Rattle.famrun.specs.Running.{HasRun, AllFrom, asked, is_calm, replies_of, line_of, lines_from}
 use Rattle.famrun.specs.Standing.{start, state_with, StandsBefore}
 use Rattle.fam_model.proofs.Histories.{state_after-append}

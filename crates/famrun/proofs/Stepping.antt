@@ -1,15 +1,13 @@
 -- The steps of the machine that one call takes.
-use Rattle.std.proofs.Common.{◌≡◌, ℕ, zero, suc, ◌+◌, ◌*◌, ◌%◌, ◌<◌, ◌≤◌, Bool, true, false, List, [], ◌∷◌, ◌++◌, refl, sym, ap, ◌∙◌, arith, length, subst}
-use Rattle.std.specs.Prelude.{◌==◌, ◌&&◌, ◌||◌, nat_lt, nat_le, Option, Some, None, slice_get, if◌then◌else◌}
+use Rattle.std.proofs.Common.{◌≡◌, ℕ, ◌+◌, Bool, true, false, List, [], ◌∷◌, ◌++◌, refl, sym, length, subst}
+use Rattle.std.specs.Prelude.{◌==◌, nat_lt, Some, None, if◌then◌else◌}
 use Rattle.fam_base.specs.declared.naming.Who.{Who}
 use Rattle.fam_base.specs.declared.naming.Need.{Need}
 use Rattle.fam_base.specs.declared.naming.Need.TheVariants as need
 use Rattle.fam_base.specs.declared.error.FamError.TheVariants.{Range}
-use Rattle.fam_base.specs.Permission.{is_allowed, bits_give}
+use Rattle.fam_base.specs.Permission.{bits_give}
 use Rattle.fam_model.specs.declared.call.DataOp.{DataOp}
-use Rattle.fam_model.specs.declared.call.DataOp.TheVariants as data_op
 use Rattle.fam_model.specs.declared.event.What.TheVariants as what
-use Rattle.fam_model.specs.declared.piece.Mark.TheVariants as mark
 use Rattle.fam_model.specs.declared.piece.Operation.{Operation}
 use Rattle.fam_model.specs.declared.piece.PlanKind.{PlanKind}
 use Rattle.fam_model.specs.declared.piece.PlanPiece.{PlanPiece}

@@ -1,6 +1,6 @@
 -- The turn of one call: its events are steps, and lead to where the next call stands.
-use Rattle.std.proofs.Common.{◌≡◌, ℕ, zero, suc, ◌+◌, ◌-◌, ◌*◌, ◌%◌, ◌<◌, ◌≤◌, Bool, true, false, List, [], ◌∷◌, ◌++◌, refl, sym, ap, ◌∙◌, arith, length, subst, take, drop, append-nil}
-use Rattle.std.specs.Prelude.{◌==◌, nat_lt, nat_le, Option, Some, None, slice_range}
+use Rattle.std.proofs.Common.{◌≡◌, ℕ, ◌+◌, ◌*◌, ◌<◌, ◌≤◌, true, false, List, [], ◌∷◌, ◌++◌, refl, arith, length}
+use Rattle.std.specs.Prelude.{nat_lt, nat_le, Some, None}
 use Rattle.std.proofs.lemmas.Bool.{le-ltb}
 use Rattle.fam_base.specs.declared.naming.Who.{Who}
 use Rattle.fam_base.specs.declared.error.FamError.TheVariants.{Range}
@@ -26,7 +26,7 @@ use Rattle.fam_model.specs.Shape.{is_shaped_data}
 use Rattle.famrun.specs.Playing.{event_of, call_of}
 use Rattle.famrun.specs.Standing.{one_stripe, Done, program_with, state_with, StandsBefore, AllAnswered}
 use Rattle.famrun.proofs.OnePiece.{common}
-use Rattle.famrun.proofs.Stepping.{issued, issue_is_step, refusal_is_step, piece_is_step, answer_is_step}
+use Rattle.famrun.proofs.Stepping.{issued, issue_is_step, piece_is_step, answer_is_step}
 
 -- refusals at issue
 

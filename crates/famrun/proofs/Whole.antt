@@ -1,13 +1,12 @@
 -- Each call that is played has its turn, whatever its range.
-use Rattle.std.proofs.Common.{◌≡◌, ℕ, zero, suc, ◌+◌, ◌-◌, ◌*◌, ◌%◌, ◌<◌, ◌≤◌, Bool, true, false, List, [], ◌∷◌, ◌++◌, refl, sym, ap, ◌∙◌, arith, length, subst, take, drop, append-nil}
-use Rattle.std.specs.Prelude.{◌==◌, ◌&&◌, ◌||◌, nat_lt, nat_le, Option, Some, None, slice_range}
+use Rattle.std.proofs.Common.{◌≡◌, ℕ, ◌+◌, ◌*◌, ◌%◌, ◌<◌, ◌≤◌, Bool, true, false, List, [], ◌∷◌, ◌++◌, refl, sym, ap, ◌∙◌, arith, length, subst, append-nil}
+use Rattle.std.specs.Prelude.{◌==◌, ◌&&◌, ◌||◌, nat_lt, nat_le, Some, slice_range}
 use Rattle.std.proofs.lemmas.Bool.{le-ltb, le-leb, ltb-false, leb-true, eqb-true}
 use Rattle.std.proofs.lemmas.Cmp.{nat_list_eq_equiv}
 use Rattle.fam_base.specs.declared.naming.Who.{Who}
 use Rattle.fam_model.specs.declared.call.DataOp.{DataOp}
 use Rattle.fam_model.specs.declared.call.DataOp.TheVariants as data_op
 use Rattle.fam_model.specs.declared.piece.Operation.{Operation}
-use Rattle.fam_model.specs.declared.piece.PlanPiece.{PlanPiece}
 use Rattle.fam_model.specs.declared.reply.PieceAnswer.TheVariants as answer
 use Rattle.fam_model.specs.declared.reply.Reply.TheVariants as reply
 use Rattle.fam_model.specs.declared.state.Started.TheVariants as started
@@ -25,7 +24,7 @@ use Rattle.fam_model.specs.Shape.{is_shaped_data}
 use Rattle.fam_model.specs.Same.{same_reply}
 use Rattle.fam_script.specs.Form.{is_outside, is_played_range, is_played_op}
 use Rattle.famrun.specs.Playing.{turn_events, bytes_after, call_of, event_of, is_out}
-use Rattle.famrun.specs.Standing.{one_stripe, Done, program_with, state_with, StandsBefore, AllAnswered, IsAnswered}
+use Rattle.famrun.specs.Standing.{one_stripe, Done, program_with, state_with, StandsBefore, AllAnswered}
 use Rattle.famrun.proofs.OnePiece.{common, get_piece, put_piece, no_get_piece, no_put_piece}
 use Rattle.famrun.proofs.Stepping.{refusal_is_step}
 use Rattle.famrun.proofs.Turns.{accepted_get, refused_get, accepted_put, refused_put, empty_turn, piece_turn, finished, answered_operation}

@@ -1,12 +1,11 @@
 -- The states of the machine in which the player stands between two calls.
-use Rattle.std.specs.Prelude.{◌≡◌, ℕ, ◌*◌, ◌-◌, ◌<◌, ◌≤◌, Bool, true, false, List, [], ◌∷◌, replicate}
+use Rattle.std.specs.Prelude.{◌≡◌, ℕ, ◌*◌, ◌-◌, ◌<◌, ◌≤◌, true, false, List, [], ◌∷◌, replicate}
 use Rattle.fam_base.specs.declared.naming.Who.{Who}
 use Rattle.fam_model.specs.declared.piece.Operation.{Operation}
 use Rattle.fam_model.specs.declared.service.Service.{Service}
 use Rattle.fam_model.specs.declared.state.Context.{Context}
 use Rattle.fam_model.specs.declared.state.ProgramState.{ProgramState}
 use Rattle.fam_model.specs.declared.state.Started.{Started}
-use Rattle.fam_model.specs.declared.state.Started.TheVariants as started
 use Rattle.fam_model.specs.declared.state.State.{State}
 use Rattle.fam_model.specs.ContextStep.{new_context}
 use Rattle.fam_model.specs.Opened.{opened, new_program, closed_context}

@@ -1,6 +1,4 @@
-use Rattle.std.proofs.Common.{rules, ap, ◌≡◌, ◌↔◌, ◌∷◌, [], ◌≢◌, map, string_bytes, codes, IsTrue, ℕ, ◌+◌, ◌-◌, ◌*◌, ◌<◌, ◌≤◌, length, ◌/◌, ◌%◌, Bool, true, false, nat_eq, nat_lt, List, ◌++◌, slice_index_or, slice_set, bit_and, bit_or, Fits, w8, w32, w64, Bor, MutBor}
-use Rattle.fam_io.specs.State.{no_source}
-use Rattle.famrun.specs.Ending.{SimOutcome, TellsText}
+use Rattle.std.proofs.Common.{ap, map, string_bytes}
 use Rattle.famrun.proofs.Patterns.{one_item, told_alone}
 use Rattle.famrun.proofs.command.is_word.Goals as goal
 

@@ -1,4 +1,3 @@
-use Rattle.std.proofs.Common.{◌∙◌, refl}
 use Rattle.famrun.proofs.Runs.{run_starts}
 use Rattle.famrun.proofs.play.play_one.Goals as goal
 

@@ -1,4 +1,4 @@
-use Rattle.std.proofs.Common.{◌≡◌, ◌∙◌, ◌<◌, ◌≤◌, ◌+◌, ◌++◌, ◌∷◌, [], ℕ, true, refl, sym, ap, take, drop, length, arith, List, subst, vec_len}
+use Rattle.std.proofs.Common.{◌≡◌, ◌∙◌, ◌<◌, ◌≤◌, ◌+◌, ◌++◌, ◌∷◌, [], ℕ, true, sym, ap, take, drop, length, arith, List, subst, vec_len}
 use Rattle.std.proofs.lemmas.List.{take_all, take-append-drop, length-take-le}
 use Rattle.fam_model.specs.declared.script.Statement.{Statement, One}
 use Rattle.std.specs.List.{list_all}

@@ -1,7 +1,5 @@
-use Rattle.std.proofs.Common.{◌≡◌, sym, vec_len, append-nil, []}
+use Rattle.std.proofs.Common.{sym, vec_len, append-nil, []}
 use Rattle.std.proofs.lemmas.Result.{on_err_weaker}
-use Rattle.fam_model.specs.Headline.{IsRun}
-use Rattle.fam_model.specs.Rows.{common_rows}
 use Rattle.famrun.proofs.Ends.{run_so_far}
 use Rattle.famrun.proofs.Plays.{is_one, run_left, both_ok}
 use Rattle.famrun.proofs.play.play_to_end.Goals as goal

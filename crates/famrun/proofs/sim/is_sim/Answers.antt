@@ -1,10 +1,4 @@
-use Rattle.std.proofs.Common.{rules, ap, ◌≡◌, ◌+◌, ◌↔◌, map, string_bytes, true, codes, IsTrue, IfOk, IfErr, ℕ, ◌-◌, ◌*◌, ◌<◌, ◌≤◌, length, ◌/◌, ◌%◌, Bool, false, nat_eq, nat_lt, List, [], ◌∷◌, ◌++◌, slice_index_or, slice_set, bit_and, bit_or, Fits, w8, w32, w64, Bor, MutBor}
-use Rattle.fam_io.specs.State.{MovesUpTo}
-use Rattle.fam_model.specs.Headline.{IsRun}
-use Rattle.fam_model.specs.Rows as rows_spec
-use Rattle.fam_script.specs.Form.{is_played}
-use Rattle.famrun.specs.Ending.{input_limit, IsSim, IsTold, ReadsScript, ReportsRun, SimEnds, SimOutcome, Tells, Unread, Writes}
-use Rattle.famrun.specs.Running.{EndsRun}
+use Rattle.std.proofs.Common.{ap, map, string_bytes}
 use Rattle.famrun.proofs.Patterns.{two_items, told_sim}
 use Rattle.famrun.proofs.sim.is_sim.Goals as goal
 

@@ -1,10 +1,4 @@
-use Rattle.std.proofs.Common.{rules, ◌≡◌, ◌+◌, ◌↔◌, map, string_bytes, true, codes, IsTrue, IfOk, IfErr, ℕ, ◌-◌, ◌*◌, ◌<◌, ◌≤◌, length, ◌/◌, ◌%◌, Bool, false, nat_eq, nat_lt, List, [], ◌∷◌, ◌++◌, slice_index_or, slice_set, bit_and, bit_or, Fits, w8, w32, w64, Bor, MutBor}
-use Rattle.fam_io.specs.State.{MovesUpTo}
-use Rattle.fam_model.specs.Headline.{IsRun}
-use Rattle.fam_model.specs.Rows as rows_spec
-use Rattle.fam_script.specs.Form.{is_played}
-use Rattle.famrun.specs.Ending.{input_limit, IsSim, IsTold, ReadsScript, ReportsRun, SimEnds, SimOutcome, Tells, Unread, Writes}
-use Rattle.famrun.specs.Running.{EndsRun}
+use Rattle.std.proofs.Common.{map, string_bytes}
 use Rattle.std.proofs.lemmas.Bool.{false≢true}
 use Rattle.famrun.proofs.Outcomes.{refused, played_out}
 use Rattle.famrun.proofs.sim.sim_main.Goals as goal

@@ -1,5 +1,5 @@
-use Rattle.std.proofs.Common.{◌≡◌, ℕ, List, [], ◌∙◌, ap, subst, replicate}
-use Rattle.stripe_store.specs.Kept.{Kept, rows_of, with_rows}
+use Rattle.std.proofs.Common.{◌≡◌, [], ◌∙◌, ap}
+use Rattle.stripe_store.specs.Kept.{Kept, rows_of}
 use Rattle.stripe_store.proofs.Laws.{no_rows}
 use Rattle.famrun.specs.Item.{joined}
 use Rattle.famrun.proofs.Joined.{zero_item, zero_bytes}
