@@ -24,7 +24,8 @@ SEED is a number below 2^64 in decimal digits. The script comes on standard inpu
 pub const VERSION: &str = "famrun 0.1.0
 ";
 
-/// The program's commands, by their words. `sim` goes by `sim_main`; `--help` and `--version` tell a text.
+/// The program's commands, by their words. `sim` goes by `sim_main`. `--help` and `--version` write a text and read
+/// nothing; their status is 0, or 5 where the sink failed and a prefix of the text is written.
 pub fn fam_main<S: Source, K: Sink>(
     alloc: Global,
     words: &[String],

@@ -90,6 +90,7 @@ fn play_program(
         run.new.history.items run.new.lines.items run.new.item) }
     ensures err { OnErr result (IsRun common_rows script.now run.new.history.items) }
 {
+    // The contract alone speaks of it.
     let _script = script;
     for statement in program.statements.as_slice() {
         match statement {
@@ -153,6 +154,7 @@ fn nothing(alloc: Global, script: &Script, whole: bool) -> Played
     ensures run { IsRun common_rows script.now result.history.items }
     ensures whole { result.whole ≡ true → EndsRun script.now result.history.items result.replies.items }
 {
+    // The contract alone speaks of it.
     let _script = script;
     Played {
         history: Vec::new(alloc),

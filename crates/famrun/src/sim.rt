@@ -166,6 +166,7 @@ fn report_run<K: Sink>(
         replies,
         whole,
     } = played;
+    // The contract alone speaks of it.
     let _script = script;
     if !whole {
         return (tell_no_memory(output), history);
@@ -213,7 +214,12 @@ fn simulate<S: Source, K: Sink>(
 /// The command `sim SEED`: reads a script from the source, plays it, and writes the report of its history.
 ///
 /// The history is one legal run of the memory machine that follows the script, also where a write failed or memory was
-/// wanting; it is then the run so far. Other words than those of `sim` give status 2.
+/// wanting; it is then the run so far.
+///
+/// The status is 0 where the report is written, and else tells why not, with a line on the output: 2 other words than
+/// those of `sim`, 3 the input is no script that is played, 4 the source failed, 9 memory was wanting, 10 the input has
+/// more than 16,777,216 bytes. At 5 the sink failed, and a prefix of the report is written. At 2, 3, 4 and 10 nothing was
+/// played, and at 2 nothing was read.
 pub fn sim_main<S: Source, K: Sink>(
     alloc: Global,
     words: &[String],
