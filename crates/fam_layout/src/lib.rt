@@ -5,6 +5,8 @@ mod border;
 mod laws;
 mod layout;
 mod plan;
+#[cfg(test)]
+mod tests;
 
 pub use laws::places_differ;
 pub use layout::{Layout, Ranges};
