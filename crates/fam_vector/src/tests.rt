@@ -85,6 +85,15 @@ fn parts(piece: &PlanPiece) -> (u64, u64, u64, u32, u64, u32) {
     )
 }
 
+/// Offset, length, first and last byte of a write.
+fn bounds(piece: &PlanPiece) -> (u64, u64, u8, u8) {
+    match piece.bytes.as_slice() {
+        [first, .., last] => (piece.offset, piece.n, *first, *last),
+        [only] => (piece.offset, piece.n, *only, *only),
+        [] => (piece.offset, piece.n, 0, 0),
+    }
+}
+
 #[test]
 fn gather_in_order_of_elements(rt: HostRuntime) -> Result<(), Fail> {
     let items = item(5, 0, 1000);
@@ -121,31 +130,20 @@ fn scatter_takes_bytes_in_turn(rt: HostRuntime) -> Result<(), Fail> {
         places: Places::of(rt.alloc(), &[21, 0])?,
         bytes: Bytes::of(rt.alloc(), &[1, 2, 3, 4, 5, 6])?,
     };
-    for (op, offsets, bytes) in [
-        (
-            strided,
-            [60, 90].as_slice(),
-            [[1, 2, 3].as_slice(), [4, 5, 6].as_slice()].as_slice(),
-        ),
+    for (op, want) in [
+        (strided, [(60, 3, 1, 3), (90, 3, 4, 6)].as_slice()),
         (
             indexed,
-            [63, 64, 0].as_slice(),
-            [[1].as_slice(), [2, 3].as_slice(), [4, 5, 6].as_slice()].as_slice(),
+            [(63, 1, 1, 1), (64, 2, 2, 3), (0, 3, 4, 6)].as_slice(),
         ),
     ] {
         let items = item(5, 0, 1000);
         let plan = planned(&rt, rt.alloc(), &op, items, items)?;
         assert_eq!(rt; plan.kind, PlanKind::Put);
-        assert_eq!(rt; plan.pieces.len(), offsets.len());
-        for (piece, (offset, bytes)) in plan
-            .pieces
-            .as_slice()
-            .iter()
-            .zip(offsets.iter().zip(bytes.iter()))
-        {
-            assert_eq!(rt; piece.offset, *offset);
+        assert_eq!(rt; plan.pieces.len(), want.len());
+        for (piece, want) in plan.pieces.as_slice().iter().zip(want.iter()) {
+            assert_eq!(rt; bounds(piece), *want);
             assert_eq!(rt; piece.need, Need::Write);
-            assert_eq!(rt; piece.bytes.as_slice(), *bytes);
         }
     }
     Ok(())
