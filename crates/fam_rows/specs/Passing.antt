@@ -14,7 +14,11 @@ blocks n = max 1 (div_ceil n 64)
 abbrev pub is_free : Rows → ℕ → ℕ → ℕ → Bool
 is_free rows region n base = list_all (is_beside n base) (items_in rows region)
 
+-- a base, moved to where the item's room ends if the room of n bytes there meets it
+abbrev pub moved : ℕ → ℕ → ItemRow → ℕ
+moved n base item = if is_beside n base item then base else room_end item
+
 -- a base, moved in turn past each item whose room it meets
 abbrev pub past : ℕ → ℕ → List ItemRow → ℕ
 past n base [] = base
-past n base (item ∷ items) = past n (if is_beside n base item then base else room_end item) items
+past n base (item ∷ items) = past n (moved n base item) items

@@ -1,6 +1,6 @@
 //! Rows by their numbers and names.
 
-ghost use Rattle.std.specs.Prelude.{◌≡◌};
+ghost use Rattle.std.specs.Prelude.{◌≡◌, ◌<◌, IfSome, length};
 ghost use Rattle.std.specs.Option.{option_copied};
 ghost use Rattle.fam_model.specs.Lists.{place_of};
 ghost use Rattle.fam_model.specs.Rows as words;
@@ -12,19 +12,25 @@ use fam_model::{ItemRow, RegionRow, Rows};
 /// The place of the region of that number.
 pub(crate) fn place_of_region(rows: &Rows, number: RegionId) -> Option<usize>
     requires { IsLawful rows.now }
-    ensures { result ≡ place_of region_number number.0 rows.now.regions }
+    ensures place { result ≡ place_of region_number number.0 rows.now.regions }
+    ensures within { IfSome result (λ k. k < length rows.now.regions) }
 {
     let regions = rows.regions.as_slice();
-    regions.binary_search_by_key(&number.0, |row| row.number.0).ok()
+    regions
+        .binary_search_by_key(&number.0, |row| row.number.0)
+        .ok()
 }
 
 /// The place of the item of that number.
 pub(crate) fn place_of_item(rows: &Rows, number: ItemId) -> Option<usize>
     requires { IsLawful rows.now }
-    ensures { result ≡ place_of item_number number.0 rows.now.items }
+    ensures place { result ≡ place_of item_number number.0 rows.now.items }
+    ensures within { IfSome result (λ k. k < length rows.now.items) }
 {
     let items = rows.items.as_slice();
-    items.binary_search_by_key(&number.0, |row| row.number.0).ok()
+    items
+        .binary_search_by_key(&number.0, |row| row.number.0)
+        .ok()
 }
 
 /// The region of that number.
