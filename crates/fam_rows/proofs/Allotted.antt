@@ -59,14 +59,15 @@ allocates rows item region base size uid gid mode name lawful ok =
       next_item_bound = omega (arith, end);
       regions = All-weaker (IsLawfulRegion rows) (IsLawfulRegion new) (λ x h. region_stands rows new x (omega arith) h) rows.regions lawful.regions;
       items = All-push (IsLawfulItem new) rows.items row
-        (All-weaker (IsLawfulItem rows) (IsLawfulItem new) (λ x h. item_stays rows new x (omega (arith, next)) (λ r found. found) h) rows.items lawful.items)
-        (record { number = omega arith; name = good.3; mode = leb-true _ _ good.1; owner = λ _. ltb-true _ _ good.0; size = leb-true _ _ good.2; base = eqb-true _ _ placed.0; inside = (there.0, there.1, leb-true _ _ placed.1) });
+          (All-weaker (IsLawfulItem rows) (IsLawfulItem new) (λ x h. item_stays rows new x (omega (arith, next)) (λ r found. found) h) rows.items lawful.items)
+          (record { number = omega arith; name = good.3; mode = leb-true _ _ good.1; owner = λ _. ltb-true _ _ good.0; size = leb-true _ _ good.2; base = eqb-true _ _ placed.0; inside = (there.0, there.1, leb-true _ _ placed.1) });
       region_names_differ = lawful.region_names_differ;
       items_are_apart = all_pairs_push AreApart rows.items row lawful.items_are_apart (λ k d in_range same.
-        let x = get_or rows.items k d in
-        let here : x.region.0 ≡ region.0 = ap (λ r. r.0) same in
-        (differ x.name name (unnamed k d in_range (eq-eqb x.region.0 region.0 here)),
-        apart_from x row (beside k d in_range (eq-eqb x.region.0 (region_number there.0) (here ∙ sym number)))));
+          let x = get_or rows.items k d in
+          let here : x.region.0 ≡ region.0 = ap (λ r. r.0) same in (
+            differ x.name name (unnamed k d in_range (eq-eqb x.region.0 region.0 here)),
+            apart_from x row (beside k d in_range (eq-eqb x.region.0 (region_number there.0) (here ∙ sym number))),
+          ));
       region_count = lawful.region_count;
       item_count = (let count = ltb-true (length rows.items) max_items parts.3 in omega (arith, count, length-append rows.items (row ∷ [])));
       total = lawful.total;
@@ -117,13 +118,13 @@ sets_item_mode rows item mode lawful ok =
       next_item_bound = lawful.next_item_bound;
       regions = All-weaker (IsLawfulRegion rows) (IsLawfulRegion new) (λ x h. region_stands rows new x (omega arith) h) rows.regions lawful.regions;
       items = All-map (IsLawfulItem new) g rows.items (All-weaker (IsLawfulItem rows) (λ x. IsLawfulItem new (g x)) (λ x h.
-        let stays = item_stays rows new x (omega arith) (λ r found. found) h in
-        cond_both (eqb (item_number x) n) (f x) x (IsLawfulItem new) (λ _. record { number = stays.number; name = stays.name; mode = small; owner = stays.owner; size = stays.size; base = stays.base; inside = stays.inside }) (λ _. stays)) rows.items lawful.items);
+          let stays = item_stays rows new x (omega arith) (λ r found. found) h in
+          cond_both (eqb (item_number x) n) (f x) x (IsLawfulItem new) (λ _. record { number = stays.number; name = stays.name; mode = small; owner = stays.owner; size = stays.size; base = stays.base; inside = stays.inside }) (λ _. stays)) rows.items lawful.items);
       region_names_differ = lawful.region_names_differ;
       items_are_apart = AllPairs_mapped AreApart g rows.items (AllPairs_weaker AreApart (λ a b. AreApart (g a) (g b)) rows.items (λ a b apart.
-        cond_both (eqb (item_number a) n) (f a) a (λ z. AreApart z (g b))
-        (λ _. cond_both (eqb (item_number b) n) (f b) b (λ z. AreApart (f a) z) (λ _. apart) (λ _. apart))
-        (λ _. cond_both (eqb (item_number b) n) (f b) b (λ z. AreApart a z) (λ _. apart) (λ _. apart))) lawful.items_are_apart);
+          cond_both (eqb (item_number a) n) (f a) a (λ z. AreApart z (g b))
+          (λ _. cond_both (eqb (item_number b) n) (f b) b (λ z. AreApart (f a) z) (λ _. apart) (λ _. apart))
+          (λ _. cond_both (eqb (item_number b) n) (f b) b (λ z. AreApart a z) (λ _. apart) (λ _. apart))) lawful.items_are_apart);
       region_count = lawful.region_count;
       item_count = (let before = lawful.item_count in omega (arith, before, length-map rows.items g));
       total = lawful.total;

@@ -36,8 +36,8 @@ pub All_kept : {X : Type 0} (P : X → Type 0) (p : X → Bool) (xs : List X) �
 All_kept P p [] all = All-nil (λ x. p x ≡ true → P x)
 All_kept P p (x ∷ xs) all = elim (cases_Bool (p x)) [
   | inl holds ↦
-    let kept : All P (x ∷ filter p xs) = rw holds at all in
-    All-cons (λ y. p y ≡ true → P y) x xs (λ _. All-head P x (filter p xs) kept) (All_kept P p xs (All-tail P x (filter p xs) kept))
+      let kept : All P (x ∷ filter p xs) = rw holds at all in
+      All-cons (λ y. p y ≡ true → P y) x xs (λ _. All-head P x (filter p xs) kept) (All_kept P p xs (All-tail P x (filter p xs) kept))
   | inr fails ↦ All-cons (λ y. p y ≡ true → P y) x xs (λ holds. absurd (false≢true (sym fails ∙ holds))) (All_kept P p xs (rw fails at all))
 ]
 
@@ -153,15 +153,15 @@ module _ {X : Type 0} (number : X → ℕ) where
       let short : Option ℕ → List X = λ o. option_map_or (λ k. change_place k f xs) o xs in
       elim (cases_lt (position_or_len p xs) (length xs)) [
         | inl inside ↦
-          let place : position p (x ∷ xs) ≡ Some (suc (position_or_len p xs)) = position_from p (x ∷ xs) (suc (position_or_len p xs)) (omega (arith, first)) (omega arith) in
-          let later : position p xs ≡ Some (position_or_len p xs) = position_from p xs (position_or_len p xs) refl inside in
-          let read = slice_get-get_or xs (position_or_len p xs) x inside in
-          let one : long (Some (suc (position_or_len p xs))) ≡ x ∷ short (Some (position_or_len p xs)) = rw read refl in
-          ap long place ∙ one ∙ sym (ap (λ o. x ∷ short o) later)
+            let place : position p (x ∷ xs) ≡ Some (suc (position_or_len p xs)) = position_from p (x ∷ xs) (suc (position_or_len p xs)) (omega (arith, first)) (omega arith) in
+            let later : position p xs ≡ Some (position_or_len p xs) = position_from p xs (position_or_len p xs) refl inside in
+            let read = slice_get-get_or xs (position_or_len p xs) x inside in
+            let one : long (Some (suc (position_or_len p xs))) ≡ x ∷ short (Some (position_or_len p xs)) = rw read refl in
+            ap long place ∙ one ∙ sym (ap (λ o. x ∷ short o) later)
         | inr past ↦
-          let place : position p (x ∷ xs) ≡ None = position_none p (x ∷ xs) (omega (arith, first, prefix_len-le-length (λ y. not (p y)) xs)) in
-          let later : position p xs ≡ None = position_none p xs (omega (arith, prefix_len-le-length (λ y. not (p y)) xs)) in
-          ap long place ∙ sym (ap (λ o. x ∷ short o) later)
+            let place : position p (x ∷ xs) ≡ None = position_none p (x ∷ xs) (omega (arith, first, prefix_len-le-length (λ y. not (p y)) xs)) in
+            let later : position p xs ≡ None = position_none p xs (omega (arith, prefix_len-le-length (λ y. not (p y)) xs)) in
+            ap long place ∙ sym (ap (λ o. x ∷ short o) later)
       ]
 
   -- the change of the element of a number, element by element
@@ -169,14 +169,14 @@ module _ {X : Type 0} (number : X → ℕ) where
   change_is_map n f [] rise = refl
   change_is_map n f (x ∷ xs) rise = elim (cases_eq (number x) n) [
     | inl same ↦
-      let here : changed_one n f x ≡ f x = cond-true (eqb (number x) n) (f x) x (eq-eqb (number x) n same) in
-      let above = above_first x xs rise in
-      let rest : map (changed_one n f) xs ≡ xs = unchanged n f xs (λ k d in_range equal. (let more = above k d in_range in omega arith)) in
-      change_first n f x xs same ∙ cc (here, rest)
+        let here : changed_one n f x ≡ f x = cond-true (eqb (number x) n) (f x) x (eq-eqb (number x) n same) in
+        let above = above_first x xs rise in
+        let rest : map (changed_one n f) xs ≡ xs = unchanged n f xs (λ k d in_range equal. (let more = above k d in_range in omega arith)) in
+        change_first n f x xs same ∙ cc (here, rest)
     | inr other ↦
-      let here : changed_one n f x ≡ x = cond-false (eqb (number x) n) (f x) x (ne_eqb (number x) n other) in
-      let rest = change_is_map n f xs (rise_tail x xs rise) in
-      change_later n f x xs other ∙ cc (here, rest)
+        let here : changed_one n f x ≡ x = cond-false (eqb (number x) n) (f x) x (ne_eqb (number x) n other) in
+        let rest = change_is_map n f xs (rise_tail x xs rise) in
+        change_later n f x xs other ∙ cc (here, rest)
   ]
 
   -- what is found by number, once an element is changed
@@ -196,17 +196,17 @@ module _ {X : Type 0} (number : X → ℕ) where
   sum_changed f n h [] x rise e = absurd (cc e)
   sum_changed f n h (y ∷ xs) x rise e = elim (cases_eq (number y) n) [
     | inl same ↦
-      let test = eq-eqb (number y) n same in
-      let is : y ≡ x = cc (rw test at e) in
-      let here : changed_one n h y ≡ h x = cond-true (eqb (number y) n) (h y) y test ∙ ap h is in
-      let above = above_first y xs rise in
-      let rest : map (changed_one n h) xs ≡ xs = unchanged n h xs (λ k d in_range equal. (let more = above k d in_range in omega arith)) in
-      rw (rest, here, sum_by-cons f (h x) xs, sum_by-cons f y xs) (let size = ap f is in omega (arith, size))
+        let test = eq-eqb (number y) n same in
+        let is : y ≡ x = cc (rw test at e) in
+        let here : changed_one n h y ≡ h x = cond-true (eqb (number y) n) (h y) y test ∙ ap h is in
+        let above = above_first y xs rise in
+        let rest : map (changed_one n h) xs ≡ xs = unchanged n h xs (λ k d in_range equal. (let more = above k d in_range in omega arith)) in
+        rw (rest, here, sum_by-cons f (h x) xs, sum_by-cons f y xs) (let size = ap f is in omega (arith, size))
     | inr other ↦
-      let test = ne_eqb (number y) n other in
-      let here : changed_one n h y ≡ y = cond-false (eqb (number y) n) (h y) y test in
-      let rest = sum_changed f n h xs x (rise_tail y xs rise) (rw test at e) in
-      rw (here, sum_by-cons f y (map (changed_one n h) xs), sum_by-cons f y xs) (omega (arith, rest))
+        let test = ne_eqb (number y) n other in
+        let here : changed_one n h y ≡ y = cond-false (eqb (number y) n) (h y) y test in
+        let rest = sum_changed f n h xs x (rise_tail y xs rise) (rw test at e) in
+        rw (here, sum_by-cons f y (map (changed_one n h) xs), sum_by-cons f y xs) (omega (arith, rest))
   ]
 
 -- a sum stays where each term does

@@ -1,5 +1,6 @@
 -- Each lawful change keeps rows lawful.
-use Rattle.std.proofs.Common.{◌≡◌, true}
+use Rattle.std.proofs.Common.{◌≡◌, true, Result, Ok, Err, OnOk, OnErr, sym, subst}
+use Rattle.fam_base.specs.declared.error.NoMemory.{NoMemory}
 use Rattle.fam_model.specs.declared.change.Change.{Change}
 use Rattle.fam_model.specs.declared.change.Change.TheVariants as change
 use Rattle.fam_model.specs.declared.rows.Rows.{Rows}
@@ -19,3 +20,8 @@ keeps_law rows (change.Deallocate item) lawful ok = deallocates rows item lawful
 keeps_law rows (change.SetItemMode item mode) lawful ok = sets_item_mode rows item mode lawful ok
 keeps_law rows (change.SetRegionMode region mode) lawful ok = sets_mode rows region mode lawful ok
 keeps_law rows (change.Skip next_region next_item) lawful ok = skips rows next_region next_item lawful ok
+
+-- rows stay lawful whether the change is made or not
+pub made_lawful : (rows new : Rows) (chosen : Change) (r : Result (Unit {0}) NoMemory) → IsLawful rows → is_lawful_change rows chosen ≡ true → OnOk r (new ≡ after rows chosen) → OnErr r (new ≡ rows) → IsLawful new
+made_lawful rows new chosen (Ok done) lawful ok made kept = subst IsLawful (sym made) (keeps_law rows chosen lawful ok)
+made_lawful rows new chosen (Err error) lawful ok made kept = subst IsLawful (sym kept) lawful

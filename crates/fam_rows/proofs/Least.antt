@@ -50,8 +50,8 @@ stop rows row n base e =
     let count : length bases ≡ row.size / 64 + 1 = length-map-range_with_len (λ i. 64 * i) 0 (row.size / 64 + 1) in
     elim (cases_lt place (length bases)) [
       | inl inside ↦
-        let lt : place < row.size / 64 + 1 = omega (arith, inside, count) in
-        (lt, sym (get_or_from_slice_get bases place base 0 read) ∙ base_at row.size place lt)
+          let lt : place < row.size / 64 + 1 = omega (arith, inside, count) in
+          (lt, sym (get_or_from_slice_get bases place base 0 read) ∙ base_at row.size place lt)
       | inr past ↦ absurd (cc (sym (slice_get_past bases place past) ∙ read))
     ]
 
@@ -61,23 +61,23 @@ least_fits rows row n base e = passes_found (fits rows row n) (bases_up_to row.s
 pub none_lower : (rows : Rows) (row : RegionRow) (n base lower : ℕ) → least_base rows row n ≡ Some base → lower < base → fits rows row n lower ≡ false
 none_lower rows row n base lower e below = elim (cases_Bool (fits rows row n lower)) [
   | inl holds ↦ absurd (
-    let at_end = stop rows row n base e in
-    let place = tried rows row n lower holds in
-    let before : lower / 64 < position_or_len (fits rows row n) (bases_up_to row.size) = omega (arith, at_end.1, place.0) in
-    let fails = fails_before_first (fits rows row n) (bases_up_to row.size) (lower / 64) 0 before in
-    let here : get_or (bases_up_to row.size) (lower / 64) 0 ≡ lower = base_at row.size (lower / 64) place.1 ∙ place.0 in
-    both_ways (fits rows row n lower) (sym (ap (fits rows row n) here) ∙ fails) holds)
+      let at_end = stop rows row n base e in
+      let place = tried rows row n lower holds in
+      let before : lower / 64 < position_or_len (fits rows row n) (bases_up_to row.size) = omega (arith, at_end.1, place.0) in
+      let fails = fails_before_first (fits rows row n) (bases_up_to row.size) (lower / 64) 0 before in
+      let here : get_or (bases_up_to row.size) (lower / 64) 0 ≡ lower = base_at row.size (lower / 64) place.1 ∙ place.0 in
+      both_ways (fits rows row n lower) (sym (ap (fits rows row n) here) ∙ fails) holds)
   | inr fails ↦ fails
 ]
 
 pub none_fits : (rows : Rows) (row : RegionRow) (n base : ℕ) → least_base rows row n ≡ None → fits rows row n base ≡ false
 none_fits rows row n base e = elim (cases_Bool (fits rows row n base)) [
   | inl holds ↦ absurd (
-    let place = tried rows row n base holds in
-    let count : length (bases_up_to row.size) ≡ row.size / 64 + 1 = length-map-range_with_len (λ i. 64 * i) 0 (row.size / 64 + 1) in
-    let fails = All_unfound (fits rows row n) (bases_up_to row.size) e (base / 64) 0 (omega (arith, place.1, count)) in
-    let here : get_or (bases_up_to row.size) (base / 64) 0 ≡ base = base_at row.size (base / 64) place.1 ∙ place.0 in
-    both_ways (fits rows row n base) (sym (ap (fits rows row n) here) ∙ fails) holds)
+      let place = tried rows row n base holds in
+      let count : length (bases_up_to row.size) ≡ row.size / 64 + 1 = length-map-range_with_len (λ i. 64 * i) 0 (row.size / 64 + 1) in
+      let fails = All_unfound (fits rows row n) (bases_up_to row.size) e (base / 64) 0 (omega (arith, place.1, count)) in
+      let here : get_or (bases_up_to row.size) (base / 64) 0 ≡ base = base_at row.size (base / 64) place.1 ∙ place.0 in
+      both_ways (fits rows row n base) (sym (ap (fits rows row n) here) ∙ fails) holds)
   | inr fails ↦ fails
 ]
 
@@ -92,12 +92,12 @@ first_lies rows asked base e = refl
 pub first_there : (rows : Rows) (who : Who) (asked : Request) → refusal rows who asked ≡ None → IsSome (first_base rows asked)
 first_there rows who (request.Allocate name size mode region) none =
     let behind : RegionRow → List (Bool × FamError) = λ row.
-        (is_some (item_named rows region.0 name), Exists)
-        ∷ (not (is_allowed (region_owner row) row.mode who Write), NoPermission)
-        ∷ (leb max_items (length rows.items), NoSpace)
-        ∷ (no_gap rows row size, NoSpace)
-        ∷ (leb number_end rows.next_item, NoSpace)
-        ∷ [] in
+    (is_some (item_named rows region.0 name), Exists)
+    ∷ (not (is_allowed (region_owner row) row.mode who Write), NoPermission)
+    ∷ (leb max_items (length rows.items), NoSpace)
+    ∷ (no_gap rows row size, NoSpace)
+    ∷ (leb number_end rows.next_item, NoSpace)
+    ∷ [] in
     let named = passed (not (is_good_name name)) BadName _ none in
     let sized = passed (ltb max_region_size size) TooLarge (first_case (error_or Absent (region_of rows region.0) behind)) named.1 in
     let there = there_passed Absent (region_of rows region.0) behind sized.1 in

@@ -2,6 +2,7 @@ pub mod Searches
 pub mod Served
 pub mod Standing
 pub mod Allotted
+pub mod CommonLaw
 pub mod Edits
 pub mod Gaps
 pub mod Keeping

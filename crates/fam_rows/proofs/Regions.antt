@@ -47,8 +47,8 @@ creates rows region uid gid mode size name lawful ok =
       next_region_bound = omega (arith, end);
       next_item_bound = lawful.next_item_bound;
       regions = All-push (IsLawfulRegion new) rows.regions row
-        (All-weaker (IsLawfulRegion rows) (IsLawfulRegion new) (λ x h. region_stands rows new x (omega (arith, next)) h) rows.regions lawful.regions)
-        (record { number = omega arith; name = good.3; mode = leb-true _ _ good.1; owner = λ _. ltb-true _ _ good.0; size = leb-true _ _ good.2 });
+          (All-weaker (IsLawfulRegion rows) (IsLawfulRegion new) (λ x h. region_stands rows new x (omega (arith, next)) h) rows.regions lawful.regions)
+          (record { number = omega arith; name = good.3; mode = leb-true _ _ good.1; owner = λ _. ltb-true _ _ good.0; size = leb-true _ _ good.2 });
       items = All-weaker (IsLawfulItem rows) (IsLawfulItem new) (λ x h. item_stays rows new x (omega arith) (λ r there. region_is new x.region.0 ∙ find_grown (λ z. eqb (region_number z) x.region.0) rows.regions (row ∷ []) r (sym (region_is rows x.region.0) ∙ there)) h) rows.items lawful.items;
       region_names_differ = all_pairs_push (λ a b. a.name ≢ b.name) rows.regions row lawful.region_names_differ (λ k d in_range. differ (get_or rows.regions k d).name name (unnamed k d in_range));
       items_are_apart = lawful.items_are_apart;
@@ -76,13 +76,13 @@ destroys rows region lawful ok =
       next_item_bound = lawful.next_item_bound;
       regions = All-weaker (IsLawfulRegion rows) (IsLawfulRegion new) (λ x h. region_stands rows new x (omega arith) h) (filter stays rows.regions) (All-filter stays (IsLawfulRegion rows) rows.regions lawful.regions);
       items = λ k d in_range.
-        let x = get_or (filter keeps rows.items) k d in
-        let elsewhere : eqb x.region.0 region.0 ≡ false = not-true (eqb x.region.0 region.0) (filter_passes keeps rows.items k d in_range) in
-        item_stays rows new x (omega arith)
-        (λ r there. region_is new x.region.0
-        ∙ find_kept stays (λ z. eqb (region_number z) x.region.0) rows.regions (λ z sought. (let same = eqb-true (region_number z) x.region.0 sought in not_from_false (eqb (region_number z) region.0) (ap (λ m. eqb m region.0) same ∙ elsewhere)))
-        ∙ sym (region_is rows x.region.0) ∙ there)
-        (All-filter keeps (IsLawfulItem rows) rows.items lawful.items k d in_range);
+          let x = get_or (filter keeps rows.items) k d in
+          let elsewhere : eqb x.region.0 region.0 ≡ false = not-true (eqb x.region.0 region.0) (filter_passes keeps rows.items k d in_range) in
+          item_stays rows new x (omega arith)
+          (λ r there. region_is new x.region.0
+          ∙ find_kept stays (λ z. eqb (region_number z) x.region.0) rows.regions (λ z sought. (let same = eqb-true (region_number z) x.region.0 sought in not_from_false (eqb (region_number z) region.0) (ap (λ m. eqb m region.0) same ∙ elsewhere)))
+          ∙ sym (region_is rows x.region.0) ∙ there)
+          (All-filter keeps (IsLawfulItem rows) rows.items lawful.items k d in_range);
       region_names_differ = AllPairs-filter (λ a b. a.name ≢ b.name) stays rows.regions lawful.region_names_differ;
       items_are_apart = AllPairs-filter AreApart keeps rows.items lawful.items_are_apart;
       region_count = (let before = lawful.region_count in omega (arith, before, length_kept stays rows.regions));
@@ -106,12 +106,12 @@ mapped rows g lawful same_number same_name same_common each ends total =
       next_item_bound = lawful.next_item_bound;
       regions = All-map (IsLawfulRegion new) g rows.regions (All-weaker (IsLawfulRegion rows) (λ x. IsLawfulRegion new (g x)) (λ x h. region_stands rows new (g x) (omega arith) (each x h)) rows.regions lawful.regions);
       items = λ k d in_range.
-        let x = get_or rows.items k d in
-        let h = lawful.items k d in_range in
-        let found : find (λ z. eqb (region_number z) x.region.0) rows.regions ≡ Some h.inside.0 = sym (region_is rows x.region.0) ∙ h.inside.1 in
-        item_stands rows new x (omega arith) (g h.inside.0)
-        (region_is new x.region.0 ∙ find_mapped region_number x.region.0 g rows.regions same_number ∙ ap (option_map g) found)
-        (ends k d in_range h.inside.0 h.inside.1 h.inside.2) h;
+          let x = get_or rows.items k d in
+          let h = lawful.items k d in_range in
+          let found : find (λ z. eqb (region_number z) x.region.0) rows.regions ≡ Some h.inside.0 = sym (region_is rows x.region.0) ∙ h.inside.1 in
+          item_stands rows new x (omega arith) (g h.inside.0)
+          (region_is new x.region.0 ∙ find_mapped region_number x.region.0 g rows.regions same_number ∙ ap (option_map g) found)
+          (ends k d in_range h.inside.0 h.inside.1 h.inside.2) h;
       region_names_differ = AllPairs_mapped (λ a b. a.name ≢ b.name) g rows.regions (AllPairs_weaker (λ a b. a.name ≢ b.name) (λ a b. (g a).name ≢ (g b).name) rows.regions (λ a b differs same. differs (sym (same_name a) ∙ same ∙ same_name b)) lawful.region_names_differ);
       items_are_apart = lawful.items_are_apart;
       region_count = (let before = lawful.region_count in omega (arith, before, length-map rows.regions g));
@@ -141,18 +141,18 @@ resizes rows region size lawful ok =
     let uncut = All_kept (λ x. ltb size (room_end x) ≡ false) (λ x. eqb x.region.0 (region_number row)) rows.items (All_without_any (λ x. ltb size (room_end x)) (items_in rows (region_number row)) (not-true (cuts_item rows row size) tests.0)) in
     let sum = sum_changed region_number (λ x. x.size) n f rows.regions row rise found in
     let changed = mapped rows g lawful
-        (λ x. cond_both (eqb (region_number x) n) (f x) x (λ z. region_number z ≡ region_number x) (λ _. refl) (λ _. refl))
-        (λ x. cond_both (eqb (region_number x) n) (f x) x (λ z. z.name ≡ x.name) (λ _. refl) (λ _. refl))
-        (common_stays n f other)
-        (λ x h. cond_both (eqb (region_number x) n) (f x) x (IsLawfulRegion rows) (λ _. record { number = h.number; name = h.name; mode = h.mode; owner = h.owner; size = small }) (λ _. h))
-        (λ k d in_range r there_too ends. cond_both (eqb (region_number r) n) (f r) r (λ z. room_end (get_or rows.items k d) ≤ z.size)
-          (λ is.
-            let x = get_or rows.items k d in
-            let its : region_number r ≡ x.region.0 = eqb-true _ _ (passes_found (λ z. eqb (region_number z) x.region.0) rows.regions r (sym (region_is rows x.region.0) ∙ there_too)) in
-            let same : x.region.0 ≡ region_number row = sym its ∙ eqb-true (region_number r) n is ∙ sym number in
-            ltb-false size (room_end x) (uncut k d in_range (eq-eqb x.region.0 (region_number row) same)))
-          (λ _. ends))
-        (let limit = leb-true _ _ tests.1 in omega (arith, limit, sum)) in
+    (λ x. cond_both (eqb (region_number x) n) (f x) x (λ z. region_number z ≡ region_number x) (λ _. refl) (λ _. refl))
+    (λ x. cond_both (eqb (region_number x) n) (f x) x (λ z. z.name ≡ x.name) (λ _. refl) (λ _. refl))
+    (common_stays n f other)
+    (λ x h. cond_both (eqb (region_number x) n) (f x) x (IsLawfulRegion rows) (λ _. record { number = h.number; name = h.name; mode = h.mode; owner = h.owner; size = small }) (λ _. h))
+    (λ k d in_range r there_too ends. cond_both (eqb (region_number r) n) (f r) r (λ z. room_end (get_or rows.items k d) ≤ z.size)
+    (λ is.
+    let x = get_or rows.items k d in
+    let its : region_number r ≡ x.region.0 = eqb-true _ _ (passes_found (λ z. eqb (region_number z) x.region.0) rows.regions r (sym (region_is rows x.region.0) ∙ there_too)) in
+    let same : x.region.0 ≡ region_number row = sym its ∙ eqb-true (region_number r) n is ∙ sym number in
+    ltb-false size (room_end x) (uncut k d in_range (eq-eqb x.region.0 (region_number row) same)))
+    (λ _. ends))
+    (let limit = leb-true _ _ tests.1 in omega (arith, limit, sum)) in
     subst (λ (xs : List RegionRow). IsLawful (record rows { regions = xs })) (sym (change_is_map region_number n f rows.regions rise)) changed
 
 -- a region has another mode
@@ -167,12 +167,12 @@ sets_mode rows region mode lawful ok =
     let rise = rises region_number rows.regions lawful.region_numbers_rise in
     let same_size : (x : RegionRow) → (g x).size ≡ x.size = λ x. cond_both (eqb (region_number x) n) (f x) x (λ z. z.size ≡ x.size) (λ _. refl) (λ _. refl) in
     let changed = mapped rows g lawful
-        (λ x. cond_both (eqb (region_number x) n) (f x) x (λ z. region_number z ≡ region_number x) (λ _. refl) (λ _. refl))
-        (λ x. cond_both (eqb (region_number x) n) (f x) x (λ z. z.name ≡ x.name) (λ _. refl) (λ _. refl))
-        (common_stays n f other)
-        (λ x h. cond_both (eqb (region_number x) n) (f x) x (IsLawfulRegion rows) (λ _. record { number = h.number; name = h.name; mode = small; owner = h.owner; size = h.size }) (λ _. h))
-        (λ k d in_range r there_too ends. rw (same_size r) ends)
-        (let before = lawful.total in omega (arith, before, sum_same (λ x. x.size) g rows.regions same_size)) in
+    (λ x. cond_both (eqb (region_number x) n) (f x) x (λ z. region_number z ≡ region_number x) (λ _. refl) (λ _. refl))
+    (λ x. cond_both (eqb (region_number x) n) (f x) x (λ z. z.name ≡ x.name) (λ _. refl) (λ _. refl))
+    (common_stays n f other)
+    (λ x h. cond_both (eqb (region_number x) n) (f x) x (IsLawfulRegion rows) (λ _. record { number = h.number; name = h.name; mode = small; owner = h.owner; size = h.size }) (λ _. h))
+    (λ k d in_range r there_too ends. rw (same_size r) ends)
+    (let before = lawful.total in omega (arith, before, sum_same (λ x. x.size) g rows.regions same_size)) in
     subst (λ (xs : List RegionRow). IsLawful (record rows { regions = xs })) (sym (change_is_map region_number n f rows.regions rise)) changed
 
 -- numbers are passed over

@@ -4,6 +4,7 @@
 mod applying;
 mod changing;
 mod finding;
+mod fresh;
 mod lawful;
 mod laws;
 mod limits;
@@ -14,6 +15,7 @@ mod search;
 pub use applying::apply;
 pub use changing::{answer, change_at, first_base, may_lie};
 pub use finding::{descriptor, found};
+pub use fresh::common_rows;
 pub use lawful::is_lawful_change;
 pub use laws::{
     lawful_changes_keep_law, least_base_is_least, numbers_are_never_used_again,
