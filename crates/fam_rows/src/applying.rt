@@ -7,6 +7,7 @@ ghost use Rattle.fam_model.specs.declared.change.Change.TheVariants as change;
 ghost use Rattle.fam_model.specs.Lawful.{is_lawful_change};
 ghost use Rattle.fam_model.specs.Lists.{drop_number};
 ghost use Rattle.fam_model.specs.Rows.{IsLawful, region_number, item_number};
+ghost use Rattle.fam_rows.specs.Making.{adds_row};
 
 use crate::search::{place_of_item, place_of_region};
 use fam_base::{ItemId, Mode, NoMemory, RegionId, Sequence};
@@ -119,6 +120,7 @@ fn make_change(alloc: Global, rows: &mut Rows, change: Change) -> Result<(), NoM
     requires change { IsTrue (is_lawful_change rows.old change) }
     ensures ok { OnOk result (rows.new ≡ words.after rows.old change) }
     ensures err { OnErr result (rows.new ≡ rows.old) }
+    ensures wanting { OnErr result (IsTrue (adds_row change)) }
 {
     match change {
         Change::CreateRegion {
@@ -192,12 +194,13 @@ fn make_change(alloc: Global, rows: &mut Rows, change: Change) -> Result<(), NoM
     }
 }
 
-/// Makes a lawful change. Where memory is wanting the rows stay as they are.
+/// Makes a lawful change. Memory may be wanting where it adds a row, and then the rows stay as they are.
 pub fn apply(alloc: Global, rows: &mut Rows, change: Change) -> Result<(), NoMemory>
     requires lawful { IsLawful rows.old }
     requires change { IsTrue (is_lawful_change rows.old change) }
     ensures ok { OnOk result (rows.new ≡ words.after rows.old change) }
     ensures err { OnErr result (rows.new ≡ rows.old) }
+    ensures wanting { OnErr result (IsTrue (adds_row change)) }
     ensures lawful { IsLawful rows.new }
 {
     make_change(alloc, rows, change)
