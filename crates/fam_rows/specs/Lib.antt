@@ -1,0 +1,4 @@
+pub mod Laws
+pub mod Located
+pub mod Making
+pub mod Passing
