@@ -1,0 +1,1 @@
+-- Regions that come, go and change their size.
