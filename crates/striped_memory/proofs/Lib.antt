@@ -6,3 +6,4 @@ pub mod Sizes
 pub mod Views
 pub mod Accesses
 pub mod Changes
+pub mod Zeros

@@ -26,7 +26,7 @@ same_by_test : (a b : ℕ) → eq_by_cmp nat_cmp a b ≡ true → a ≡ b
 same_by_test a b tied = let test = unsigned_tied a b in grind (arith, nat_tests)
 
 -- the bytes of a region that rows elsewhere do not change
-bytes_elsewhere : (service : Service) (old new : List Kept) (region size : ℕ) →
+pub bytes_elsewhere : (service : Service) (old new : List Kept) (region size : ℕ) →
     ((stripe : ℕ) → rows_on new stripe region ≡ rows_on old stripe region) →
     bytes_in service new region size ≡ bytes_in service old region size
 unfolding byte_of
@@ -194,7 +194,7 @@ regions_same service old new sizes sizes' region size same changed is bytes =
 
 -- what stays true
 
-same_rows_has : (service : Service) (old new : List Kept) (region size : ℕ) → HasRows service old region size →
+pub same_rows_has : (service : Service) (old new : List Kept) (region size : ℕ) → HasRows service old region size →
     ((stripe : ℕ) → rows_on new stripe region ≡ rows_on old stripe region) → HasRows service new region size
 same_rows_has service old new region size has same =
     has_same_shape service old new region size has (λ stripe. ap (map length) (same stripe))

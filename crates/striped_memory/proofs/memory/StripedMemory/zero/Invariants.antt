@@ -1,6 +1,4 @@
 use Rattle.std.proofs.Common.{◌≡◌, ◌≤◌, ◌<◌, ◌-◌}
-use Rattle.std.specs.Prelude.{IsTrue}
-use Rattle.fam_layout.specs.Layouts.{is_lawful}
 use Rattle.fam_model.specs.PieceStep.{overwritten}
 use Rattle.striped_memory.specs.Striped.{bytes_of, with_bytes, zeros}
 use Rattle.striped_memory.proofs.memory.StripedMemory.zero.Given as goal
@@ -9,9 +7,9 @@ use Rattle.striped_memory.proofs.memory.StripedMemory.zero.Given as goal
 abbrev pub invariant-loop-left : goal.invariant-loop-left
 invariant-loop-left l =
     record {
-      least : l.left ≤ l.n
-      wide : 0 < l.unit
-      unit : l.unit ≡ l.fn.self.service.unit
+      least : l.left ≤ l.n;
+      wide : 0 < l.unit;
+      unit : l.unit ≡ l.fn.self.service.unit;
       written : l.self ≡ with_bytes l.fn.self l.region.0 (overwritten l.address (zeros (l.n - l.left)) (bytes_of l.fn.self l.region.0))
     }
 
