@@ -1,6 +1,7 @@
 -- Reads and writes of a region, as its bytes show them.
 use Rattle.std.proofs.Common.{◌≡◌, ◌≢◌, ℕ, ◌+◌, ◌-◌, ◌*◌, ◌/◌, ◌%◌, ◌<◌, ◌≤◌, Bool, true, false, ◌==◌, List, [], ◌++◌, length, map, get_or, take, drop, slice_set, slice_range, refl, sym, ap, subst, ◌∙◌, inl, inr, arith}
-use Rattle.std.specs.Prelude.{Some, unwrap_or, IsSome, IsTrue}
+use Rattle.std.specs.Prelude.{◌↔◌, None, Some, unwrap_or, is_some, IsSome, IsTrue}
+use Rattle.std.specs.Option.{option_map}
 use Rattle.std.specs.FinMap.{FinMap, empty, get, insert}
 use Rattle.std.proofs.Math.Nat.{mod-lt}
 use Rattle.std.proofs.lemmas.List.{ext_get_or, get_or_read, nil_from_length, append-nil, take-append-drop, length-replicate}
@@ -19,7 +20,7 @@ use Rattle.striped_memory.proofs.Places.{some_stripes, further, address_is}
 use Rattle.striped_memory.proofs.Ranges.{length_inside, byte_of_range}
 use Rattle.striped_memory.proofs.Writes.{Written, written}
 use Rattle.striped_memory.proofs.Sizes.{row_is, begins, byte_in, length_of_bytes, bytes_written, has_same_shape}
-use Rattle.striped_memory.proofs.Views.{there_found, bytes_there, unchanged, regions_with, striped_with, put_back}
+use Rattle.striped_memory.proofs.Views.{get-regions_of, there_found, bytes_there, unchanged, regions_with, striped_with, put_back}
 
 -- what is seen of the stores and the sizes
 abbrev pub seen : Service → List Kept → Sizes → Striped
@@ -53,13 +54,13 @@ module _ (service : Service) (stores : List Kept) (sizes : Sizes) (region addres
       let room = inside in
       let fits = lies.in_unit in
       let there = row_is service stores region (size_in sizes region) address striped.lawful (striped.rows region)
-        (begins service.unit address (size_in sizes region) (omega (arith, room))) in
+      (begins service.unit address (size_in sizes region) (omega (arith, room))) in
       let long = there.1 in
       (there.0, omega (arith, long, fits))
 
   read_there : 0 < n →
       slice_range (rows.bytes_of (rows_on stores (place_at service region address).stripe region) (place_at service region address).row)
-        (address % service.unit) (address % service.unit + n)
+      (address % service.unit) (address % service.unit + n)
       ≡ slice_range (bytes_of (seen service stores sizes) region) address (address + n)
   unfolding byte_of
   read_there some =
@@ -74,11 +75,11 @@ module _ (service : Service) (stores : List Kept) (sizes : Sizes) (region addres
       let back : length (slice_range whole address (address + n)) ≡ n = length_inside whole address n (omega (arith, long, room)) in
       ext_get_or 0 (slice_range row (address % service.unit) (address % service.unit + n)) (slice_range whole address (address + n)) (front ∙ sym back)
       (λ i below.
-        let there : i < n = omega (arith, front) in
-        byte_of_range row (address % service.unit) n i 0 there
-        ∙ ap (byte_at stores region) (sym (further service region address i (omega (arith, fits))))
-        ∙ sym (byte_in service stores region (size_in sizes region) (address + i) (omega (arith, room)))
-        ∙ sym (byte_of_range whole address n i 0 there))
+      let there : i < n = omega (arith, front) in
+      byte_of_range row (address % service.unit) n i 0 there
+      ∙ ap (byte_at stores region) (sym (further service region address i (omega (arith, fits))))
+      ∙ sym (byte_in service stores region (size_in sizes region) (address + i) (omega (arith, room)))
+      ∙ sym (byte_of_range whole address n i 0 there))
       ∙ ap (λ (bytes : List ℕ). slice_range bytes address (address + n)) (sym (bytes_seen service stores sizes region lies.there))
 
 -- with the store that code has found
@@ -102,7 +103,7 @@ read_at : (service : Service) (stores : List Kept) (sizes : Sizes) (region addre
     ≡ slice_range (bytes_of (seen service stores sizes) region) address (address + n)
 read_at service stores sizes region address n place striped at lies some =
     subst (λ (p : Place). slice_range (rows.bytes_of (rows_on stores p.stripe region) p.row) p.at (p.at + n)
-      ≡ slice_range (bytes_of (seen service stores sizes) region) address (address + n)) (sym at)
+    ≡ slice_range (bytes_of (seen service stores sizes) region) address (address + n)) (sym at)
     (read_there service stores sizes region address n striped lies some)
 
 pub reach_by : (service : Service) (stores : List Kept) (sizes : Sizes) (region address n : ℕ) (place : Place) (item : Kept) →
@@ -119,7 +120,7 @@ pub read_by : (service : Service) (stores : List Kept) (sizes : Sizes) (region a
     slice_range (row_of item region place.row) place.at (place.at + n) ≡ slice_range (bytes_of (seen service stores sizes) region) address (address + n)
 read_by service stores sizes region address n place item striped at lies some is =
     subst (λ (kept : Kept). slice_range (row_of kept region place.row) place.at (place.at + n)
-      ≡ slice_range (bytes_of (seen service stores sizes) region) address (address + n))
+    ≡ slice_range (bytes_of (seen service stores sizes) region) address (address + n))
     (sym (get_or_read stores place.stripe item (stripe_by service stores sizes region address n place striped at lies) is empty))
     (read_at service stores sizes region address n place striped at lies some)
 
@@ -130,10 +131,10 @@ written_by : (service : Service) (stores : List Kept) (sizes : Sizes) (region ad
     Written service stores (slice_set stores place.stripe store) region address from
 written_by service stores sizes region address from place item store striped at lies some is changed =
     subst (λ (kept : Kept). Reaches (rows_of kept region) place.row place.at (length from) →
-      store ≡ with_row kept region place.row (rows.overwritten (row_of kept region place.row) place.at from) →
-      Written service stores (slice_set stores place.stripe store) region address from) (sym is)
+    store ≡ with_row kept region place.row (rows.overwritten (row_of kept region place.row) place.at from) →
+    Written service stores (slice_set stores place.stripe store) region address from) (sym is)
     (λ reach change. written service stores region address from place item store striped.lawful at
-      (stripe_by service stores sizes region address (length from) place striped at lies) reach lies.in_unit change)
+    (stripe_by service stores sizes region address (length from) place striped at lies) reach lies.in_unit change)
     (reach_by service stores sizes region address (length from) place item striped at lies some is) changed
 
 pub write_keeps : (service : Service) (stores : List Kept) (sizes : Sizes) (region address : ℕ) (from : List ℕ) (place : Place) (item store : Kept) →
@@ -157,14 +158,14 @@ pub write_seen : (service : Service) (stores : List Kept) (sizes : Sizes) (regio
 write_seen service stores sizes region address from place item store striped at lies some is changed =
     let done = written_by service stores sizes region address from place item store striped at lies some is changed in
     let same : regions_of service (slice_set stores place.stripe store) sizes
-        ≡ insert (regions_of service stores sizes) region (overwritten address from (bytes_of (seen service stores sizes) region)) =
-      regions_with service stores (slice_set stores place.stripe store) sizes sizes region (size_in sizes region)
-        (overwritten address from (bytes_of (seen service stores sizes) region)) done.elsewhere
-        (unchanged sizes region (size_in sizes region) (there_found service stores sizes region lies.there))
-        (bytes_written service stores (slice_set stores place.stripe store) region (size_in sizes region) address from done
-          (inside service stores sizes region address (length from) striped lies)
-        ∙ ap (overwritten address from) (sym (bytes_seen service stores sizes region lies.there))) in
-    λ i. record { service = service; regions = same i; }
+    ≡ insert (regions_of service stores sizes) region (overwritten address from (bytes_of (seen service stores sizes) region)) =
+    regions_with service stores (slice_set stores place.stripe store) sizes sizes region (size_in sizes region)
+    (overwritten address from (bytes_of (seen service stores sizes) region)) done.elsewhere
+    (unchanged sizes region (size_in sizes region) (there_found service stores sizes region lies.there))
+    (bytes_written service stores (slice_set stores place.stripe store) region (size_in sizes region) address from done
+    (inside service stores sizes region address (length from) striped lies)
+    ∙ ap (overwritten address from) (sym (bytes_seen service stores sizes region lies.there))) in
+    λ i. record { service = service; regions = same i }
 
 -- bytes that are none
 
@@ -180,9 +181,9 @@ pub nothing_written : (memory : Striped) (region address : ℕ) (from : List ℕ
 nothing_written memory region address from there none =
     let empty_one : from ≡ [] = nil_from_length from none in
     let same : memory.regions ≡ insert memory.regions region (overwritten address from (bytes_of memory region)) =
-      sym (put_back memory.regions region there)
-      ∙ ap (insert memory.regions region) (sym (ap (λ (xs : List ℕ). overwritten address xs (bytes_of memory region)) empty_one ∙ none_written (bytes_of memory region) address)) in
-    λ i. record { service = memory.service; regions = same i; }
+    sym (put_back memory.regions region there)
+    ∙ ap (insert memory.regions region) (sym (ap (λ (xs : List ℕ). overwritten address xs (bytes_of memory region)) empty_one ∙ none_written (bytes_of memory region) address)) in
+    λ i. record { service = memory.service; regions = same i }
 
 pub nothing_read : (into bytes : List ℕ) (address : ℕ) → length into ≡ 0 → into ≡ slice_range bytes address (address + length into)
 nothing_read into bytes address none =
@@ -195,7 +196,7 @@ pub lies_at : (memory : Striped) (region address n : ℕ) (place : Place) → Is
     place ≡ place_at memory.service region address → LiesInUnit memory region address n → LiesAt memory region place n
 lies_at memory region address n place lawful at lies =
     let back : address_at memory.service region place ≡ address =
-      ap (address_at memory.service region) at ∙ address_is memory.service region address lawful in
+    ap (address_at memory.service region) at ∙ address_is memory.service region address lawful in
     record {
       is_place = at ∙ ap (place_at memory.service region) (sym back);
       lies = subst (λ (a : ℕ). LiesInUnit memory region a n) (sym back) lies;
@@ -227,8 +228,8 @@ module _ (service : Service) (stores : List Kept) (sizes : Sizes) (region : ℕ)
       ≡ slice_range (bytes_of memory region) (address_at memory.service region place) (address_at memory.service region place + n)
   place_read n memory e =
       subst (λ (m : Striped). LiesAt m region place n → 0 < n →
-        slice_range (row_of item region place.row) place.at (place.at + n)
-        ≡ slice_range (bytes_of m region) (address_at m.service region place) (address_at m.service region place + n)) e
+      slice_range (row_of item region place.row) place.at (place.at + n)
+      ≡ slice_range (bytes_of m region) (address_at m.service region place) (address_at m.service region place + n)) e
       (λ lies some. read_by service stores sizes region (address_at service region place) n place item striped lies.is_place lies.lies some is)
 
   pub place_kept : (from : List ℕ) (store : Kept) (memory : Striped) → seen service stores sizes ≡ memory → LiesAt memory region place (length from) →
@@ -236,8 +237,8 @@ module _ (service : Service) (stores : List Kept) (sizes : Sizes) (region : ℕ)
       IsStriped service (slice_set stores place.stripe store) sizes
   place_kept from store memory e =
       subst (λ (m : Striped). LiesAt m region place (length from) → 0 < length from →
-        store ≡ with_row item region place.row (rows.overwritten (row_of item region place.row) place.at from) →
-        IsStriped service (slice_set stores place.stripe store) sizes) e
+      store ≡ with_row item region place.row (rows.overwritten (row_of item region place.row) place.at from) →
+      IsStriped service (slice_set stores place.stripe store) sizes) e
       (λ lies some changed. write_keeps service stores sizes region (address_at service region place) from place item store striped lies.is_place lies.lies some is changed)
 
   pub place_written : (from : List ℕ) (store : Kept) (memory : Striped) → seen service stores sizes ≡ memory → LiesAt memory region place (length from) →
@@ -246,9 +247,9 @@ module _ (service : Service) (stores : List Kept) (sizes : Sizes) (region : ℕ)
       ≡ with_bytes memory region (overwritten (address_at memory.service region place) from (bytes_of memory region))
   place_written from store memory e =
       subst (λ (m : Striped). LiesAt m region place (length from) → 0 < length from →
-        store ≡ with_row item region place.row (rows.overwritten (row_of item region place.row) place.at from) →
-        seen service (slice_set stores place.stripe store) sizes
-        ≡ with_bytes m region (overwritten (address_at m.service region place) from (bytes_of m region))) e
+      store ≡ with_row item region place.row (rows.overwritten (row_of item region place.row) place.at from) →
+      seen service (slice_set stores place.stripe store) sizes
+      ≡ with_bytes m region (overwritten (address_at m.service region place) from (bytes_of m region))) e
       (λ lies some changed. write_seen service stores sizes region (address_at service region place) from place item store striped lies.is_place lies.lies some is changed)
 
 -- the same of n zeros at an address
@@ -271,8 +272,8 @@ module _ (service : Service) (stores : List Kept) (sizes : Sizes) (region addres
       IsStriped service (slice_set stores place.stripe store) sizes
   zeros_kept store memory e =
       subst (λ (m : Striped). LiesInUnit m region address n →
-        store ≡ with_row item region place.row (rows.overwritten (row_of item region place.row) place.at (zeros n)) →
-        IsStriped service (slice_set stores place.stripe store) sizes) e
+      store ≡ with_row item region place.row (rows.overwritten (row_of item region place.row) place.at (zeros n)) →
+      IsStriped service (slice_set stores place.stripe store) sizes) e
       (λ lies changed. write_keeps service stores sizes region address (zeros n) place item store striped at (lies_long (seen service stores sizes) lies) some_zeros is changed)
 
   pub zeros_written : (store : Kept) (memory : Striped) → seen service stores sizes ≡ memory → LiesInUnit memory region address n →
@@ -281,7 +282,41 @@ module _ (service : Service) (stores : List Kept) (sizes : Sizes) (region addres
       ≡ with_bytes memory region (overwritten address (zeros n) (bytes_of memory region))
   zeros_written store memory e =
       subst (λ (m : Striped). LiesInUnit m region address n →
-        store ≡ with_row item region place.row (rows.overwritten (row_of item region place.row) place.at (zeros n)) →
-        seen service (slice_set stores place.stripe store) sizes
-        ≡ with_bytes m region (overwritten address (zeros n) (bytes_of m region))) e
+      store ≡ with_row item region place.row (rows.overwritten (row_of item region place.row) place.at (zeros n)) →
+      seen service (slice_set stores place.stripe store) sizes
+      ≡ with_bytes m region (overwritten address (zeros n) (bytes_of m region))) e
       (λ lies changed. write_seen service stores sizes region address (zeros n) place item store striped at (lies_long (seen service stores sizes) lies) some_zeros is changed)
+
+-- the test of a range
+
+lies_by : (service : Service) (stores : List Kept) (sizes : Sizes) (region address n size : ℕ) → Some size ≡ found sizes region →
+    address + n ≤ size → address % service.unit + n ≤ service.unit → LiesInUnit (seen service stores sizes) region address n
+lies_by service stores sizes region address n size is inside fits =
+    let there : IsSome (get (regions_of service stores sizes) region) =
+      ap is_some (get-regions_of service stores sizes region ∙ ap (option_map (bytes_in service stores region)) (sym is)) in
+    let count : length (bytes_of (seen service stores sizes) region) ≡ size =
+      ap length (bytes_there service stores sizes region size (sym is)) ∙ length_of_bytes service stores region size in
+    record { there = there; inside = omega (arith, count); in_unit = fits; }
+
+lies_facts : (service : Service) (stores : List Kept) (sizes : Sizes) (region address n size : ℕ) → Some size ≡ found sizes region →
+    LiesInUnit (seen service stores sizes) region address n → (address + n ≤ size) × (address % service.unit + n ≤ service.unit)
+lies_facts service stores sizes region address n size is lies =
+    let count : length (bytes_of (seen service stores sizes) region) ≡ size =
+      ap length (bytes_there service stores sizes region size (sym is)) ∙ length_of_bytes service stores region size in
+    let inside = lies.inside in
+    (omega (arith, count, inside), lies.in_unit)
+
+pub lies_exactly : (service : Service) (stores : List Kept) (sizes : Sizes) (region address n size unit : ℕ) (memory : Striped) →
+    seen service stores sizes ≡ memory → Some size ≡ found sizes region → unit ≡ service.unit →
+    ((address + n ≤ size) × (address % unit + n ≤ unit)) ↔ LiesInUnit memory region address n
+lies_exactly service stores sizes region address n size unit memory e is width =
+    subst (λ (m : Striped). ((address + n ≤ size) × (address % unit + n ≤ unit)) ↔ LiesInUnit m region address n) e
+    (λ both. lies_by service stores sizes region address n size is both.0 (subst (λ (w : ℕ). address % w + n ≤ w) width both.1),
+     λ lies. let facts = lies_facts service stores sizes region address n size is lies in
+       (facts.0, subst (λ (w : ℕ). address % w + n ≤ w) (sym width) facts.1))
+
+pub lies_nowhere : (service : Service) (stores : List Kept) (sizes : Sizes) (region address n : ℕ) (memory : Striped) →
+    seen service stores sizes ≡ memory → None ≡ found sizes region → LiesInUnit memory region address n → ⊥
+lies_nowhere service stores sizes region address n memory e =
+    subst (λ (m : Striped). None ≡ found sizes region → LiesInUnit m region address n → ⊥) e
+    (λ is lies. let wrong : None ≡ Some (size_in sizes region) = is ∙ there_found service stores sizes region lies.there in cc)

@@ -1,6 +1,6 @@
 -- Regions that come, go and change their size.
 use Rattle.std.proofs.Common.{◌≡◌, ◌≢◌, ℕ, ◌+◌, ◌-◌, ◌*◌, ◌/◌, ◌<◌, ◌≤◌, ◌^◌, List, [], length, map, refl, sym, ap, subst, ◌∙◌, inl, inr, arith}
-use Rattle.std.specs.Prelude.{Result, Ok, Err, OnErr, Option, Some, None, unwrap_or, IsSome, replicate, IsTrue}
+use Rattle.std.specs.Prelude.{Result, Ok, Err, OnErr, IfSome, is_some, Option, Some, None, unwrap_or, IsSome, replicate, IsTrue}
 use Rattle.std.specs.Option.{option_map}
 use Rattle.std.specs.FinMap.{FinMap, empty, get, insert}
 use Rattle.std.specs.Ordering.{nat_cmp}
@@ -32,8 +32,9 @@ no_count service region stripe lawful on =
 none_has : (service : Service) (stores : List Kept) (region : ℕ) → IsTrue (is_lawful service) →
     ((stripe : ℕ) → rows_on stores stripe region ≡ []) → HasRows service stores region 0
 none_has service stores region lawful none =
-    record { rows = λ stripe on.
-      ap (map length) (none stripe) ∙ ap (λ (n : ℕ). replicate n service.unit) (sym (no_count service region stripe lawful on));
+    record {
+      rows = λ stripe on.
+          ap (map length) (none stripe) ∙ ap (λ (n : ℕ). replicate n service.unit) (sym (no_count service region stripe lawful on));
     }
 
 -- a new memory
@@ -51,12 +52,12 @@ pub new_striped : (service : Service) (stores : List Kept) (sizes : Sizes) → I
     sizes ≡ [] → IsStriped service stores sizes
 new_striped service stores sizes lawful are none =
     let start : IsStriped service (stripes.no_rows (stripe_count service)) [] =
-      record {
-        lawful = lawful;
-        stripes = length-replicate (stripe_count service) empty;
-        rows = λ region. none_has service (stripes.no_rows (stripe_count service)) region lawful (λ stripe. no_store (stripe_count service) stripe region);
-        small = λ region. omega arith;
-      } in
+    record {
+      lawful = lawful;
+      stripes = length-replicate (stripe_count service) empty;
+      rows = λ region. none_has service (stripes.no_rows (stripe_count service)) region lawful (λ stripe. no_store (stripe_count service) stripe region);
+      small = λ region. omega arith;
+    } in
     subst (λ (s : List Kept). IsStriped service s sizes) (sym are) (subst (λ (z : Sizes). IsStriped service (stripes.no_rows (stripe_count service)) z) (sym none) start)
 
 -- dropped
@@ -73,7 +74,7 @@ pub removed_seen : (service : Service) (old new : List Kept) (sizes sizes' : Siz
     Dropped old new region → Changed sizes sizes' region None → seen service new sizes' ≡ without (seen service old sizes) region
 removed_seen service old new sizes sizes' region dropped changed =
     let same = regions_without service old new sizes sizes' region dropped.elsewhere changed in
-    λ i. record { service = service; regions = same i; }
+    λ i. record { service = service; regions = same i }
 
 -- created
 
@@ -86,15 +87,15 @@ pub fresh_found : (service : Service) (stores : List Kept) (sizes : Sizes) (regi
 fresh_found service stores sizes region memory e =
     subst (λ (m : Striped). (IsThere m region → ⊥) → found sizes region ≡ None) e
     (λ fresh. none_by (bytes_in service stores region) (found sizes region)
-      (λ there. fresh (subst IsSome (sym (get-regions_of service stores sizes region)) there)))
+    (λ there. fresh (subst IsSome (sym (get-regions_of service stores sizes region)) there)))
 
 pub undone_seen : (service : Service) (old between new : List Kept) (sizes sizes' : Sizes) (region : ℕ) →
     SameElsewhere old between region → Dropped between new region → found sizes region ≡ None → Changed sizes sizes' region None →
     seen service new sizes' ≡ seen service old sizes
 undone_seen service old between new sizes sizes' region same dropped is changed =
     let regions = regions_same service old new sizes sizes' region None (λ stripe q apart. dropped.elsewhere stripe q apart ∙ same stripe q apart) changed is
-      (λ n e. absurd (let wrong : None ≡ Some n = e in cc)) in
-    λ i. record { service = service; regions = regions i; }
+    (λ n e. absurd (let wrong : None ≡ Some n = e in cc)) in
+    λ i. record { service = service; regions = regions i }
 
 fresh_rows : (service : Service) (old : List Kept) (sizes : Sizes) (region : ℕ) → IsStriped service old sizes → found sizes region ≡ None →
     HasRows service old region 0
@@ -114,9 +115,9 @@ pub created_seen : (service : Service) (old new : List Kept) (sizes sizes' : Siz
     seen service new sizes' ≡ with_bytes (seen service old sizes) region (zeros size)
 created_seen service old new sizes sizes' region size striped is grew changed =
     let regions = regions_with service old new sizes sizes' region size (zeros size) grew.elsewhere changed
-      (bytes_zero service new region size (λ k below.
-        grew_new service old new region 0 size k striped.lawful striped.stripes (fresh_rows service old sizes region striped is) grew (omega arith))) in
-    λ i. record { service = service; regions = regions i; }
+    (bytes_zero service new region size (λ k below.
+    grew_new service old new region 0 size k striped.lawful striped.stripes (fresh_rows service old sizes region striped is) grew (omega arith))) in
+    λ i. record { service = service; regions = regions i }
 
 -- resized
 
@@ -154,8 +155,8 @@ pub same_seen : (service : Service) (old new : List Kept) (sizes sizes' : Sizes)
     Changed sizes sizes' region (Some n) → seen service new sizes' ≡ seen service old sizes
 same_seen service old new sizes sizes' region n same is changed =
     let regions = regions_same service old new sizes sizes' region (Some n) (λ stripe q apart. same stripe q) changed (sym is)
-      (λ m e. bytes_elsewhere service old new region m (λ stripe. same stripe region)) in
-    λ i. record { service = service; regions = regions i; }
+    (λ m e. bytes_elsewhere service old new region m (λ stripe. same stripe region)) in
+    λ i. record { service = service; regions = regions i }
 
 pub resized_striped : (service : Service) (old new : List Kept) (sizes sizes' : Sizes) (region from to : ℕ) → IsStriped service old sizes →
     length new ≡ length old → Resized service old new region from to → Changed sizes sizes' region (Some to) → to ≤ 2 ^ 26 → IsStriped service new sizes'
@@ -168,8 +169,8 @@ pub resized_seen : (service : Service) (old new : List Kept) (sizes sizes' : Siz
 resized_seen service old new sizes sizes' region from to memory e is done changed =
     subst (λ (m : Striped). seen service new sizes' ≡ with_bytes m region (resized (bytes_of m region) to)) e
     (let regions = regions_with service old new sizes sizes' region to (resized (bytes_of (seen service old sizes) region) to) done.elsewhere changed
-      (done.bytes ∙ ap (λ (bytes : List ℕ). resized bytes to) (sym (bytes_there service old sizes region from (sym is)))) in
-    λ i. record { service = service; regions = regions i; })
+    (done.bytes ∙ ap (λ (bytes : List ℕ). resized bytes to) (sym (bytes_there service old sizes region from (sym is)))) in
+    λ i. record { service = service; regions = regions i })
 
 -- how long a region is
 
@@ -179,9 +180,23 @@ length_by f count (Some n) = ap Some (sym (count n))
 
 -- a region that is not there stays so
 pub missing : (sizes : Sizes) (region : ℕ) → found sizes region ≡ None → Changed sizes sizes region None
-missing sizes region is = record { here = is; others = λ q apart. refl; }
+missing sizes region is = record { here = is; others = λ q apart. refl }
 
 -- a fact that holds in any case holds after an error
 pub on_any_err : {A E P : Type 0} (r : Result A E) → P → OnErr r P
 on_any_err (Ok x) p = tt
 on_any_err (Err e) p = p
+
+is_some_mapped : {A B : Type 0} (f : A → B) (o : Option A) → is_some (option_map f o) ≡ is_some o
+is_some_mapped f None = refl
+is_some_mapped f (Some x) = refl
+
+-- a region has a size exactly where it is there
+pub size_there : (size : Option ℕ) (o : Option (List ℕ)) → size ≡ option_map length o → (IsSome size → IsSome o) × (IsSome o → IsSome size)
+size_there size o is =
+    let same = ap is_some is ∙ is_some_mapped length o in
+    (λ there. sym same ∙ there, λ there. same ∙ there)
+
+pub small_by : (size : Option ℕ) → unwrap_or size 0 ≤ 2 ^ 26 → IfSome size (λ n. n ≤ 2 ^ 26)
+small_by None small = tt
+small_by (Some n) small = small

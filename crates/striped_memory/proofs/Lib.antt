@@ -7,3 +7,4 @@ pub mod Views
 pub mod Accesses
 pub mod Changes
 pub mod Zeros
+pub mod Known

@@ -91,9 +91,10 @@ rows_are_exact service region size stripe row lawful on =
     let some = some_stripes service lawful in
     let s = stripe_count service in
     let f = first_unit service region stripe in
-    let below = first_below service region stripe some in
-    (λ there. let begins = unit_begins size service.unit (row * s + f) (wide service lawful) (row_of_unit (div_ceil size service.unit) s f row below there) in omega (arith, begins),
-     λ inside. row_there (div_ceil size service.unit) s f row below (unit_there size service.unit (row * s + f) (wide service lawful) (omega arith)))
+    let below = first_below service region stripe some in (
+      λ there. let begins = unit_begins size service.unit (row * s + f) (wide service lawful) (row_of_unit (div_ceil size service.unit) s f row below there) in omega (arith, begins),
+      λ inside. row_there (div_ceil size service.unit) s f row below (unit_there size service.unit (row * s + f) (wide service lawful) (omega arith)),
+    )
 
 -- the row of a unit, and the count of the rows on its stripe
 pub row_inside : (service : Service) (region size unit : ℕ) → IsTrue (is_lawful service) → unit * service.unit < size →

@@ -43,14 +43,14 @@ writes_stay_inside bytes from address start n inside apart =
     (length_of_range (overwritten address from bytes) start n ∙ ap (λ (k : ℕ). min n (k - start)) same
     ∙ sym (length_of_range bytes start n))
     (λ k d below.
-      let count = length_of_range (overwritten address from bytes) start n in
-      let there : k < n = omega (arith, count) in
-      byte_of_range (overwritten address from bytes) start n k d there
-      ∙ elim apart [
-        | inl before ↦ byte_before bytes address from (start + k) d inside (omega arith)
-        | inr behind ↦ byte_after bytes address from (start + k) d inside (omega arith)
-      ]
-      ∙ sym (byte_of_range bytes start n k d there))
+    let count = length_of_range (overwritten address from bytes) start n in
+    let there : k < n = omega (arith, count) in
+    byte_of_range (overwritten address from bytes) start n k d there
+    ∙ elim apart [
+      | inl before ↦ byte_before bytes address from (start + k) d inside (omega arith)
+      | inr behind ↦ byte_after bytes address from (start + k) d inside (omega arith)
+    ]
+    ∙ sym (byte_of_range bytes start n k d there))
 
 -- a byte of an item after a write into it
 byte_of_item : (bytes from : List ℕ) (base size offset k d : ℕ) → base + size ≤ length bytes → offset + length from ≤ size → k < size →
@@ -90,5 +90,5 @@ writes_of_items bytes from base size offset inside fits =
     same_lists (slice_range new base (base + size)) (overwritten offset from item)
     (long ∙ sym count ∙ sym (length-overwritten item offset from (omega (arith, count))))
     (λ k d below.
-      let there : k < size = omega (arith, long) in
-      byte_of_range new base size k d there ∙ byte_of_item bytes from base size offset k d inside fits there)
+    let there : k < size = omega (arith, long) in
+    byte_of_range new base size k d there ∙ byte_of_item bytes from base size offset k d inside fits there)

@@ -82,10 +82,11 @@ pub grew_rows : (service : Service) (old new : List Kept) (region from to : ℕ)
     length old ≡ stripe_count service → HasRows service old region from → from ≤ to → Grew service old new region to →
     HasRows service new region to
 grew_rows service old new region from to lawful all has less grew =
-    record { rows = λ stripe on.
-      ap (map length) (grew.here stripe (omega arith))
-      ∙ grown_lengths (rows_on old stripe region) (row_count service region from stripe) (row_count service region to stripe) service.unit
-        (has.rows stripe on) (more_rows service region from to stripe lawful on less);
+    record {
+      rows = λ stripe on.
+          ap (map length) (grew.here stripe (omega arith))
+          ∙ grown_lengths (rows_on old stripe region) (row_count service region from stripe) (row_count service region to stripe) service.unit
+          (has.rows stripe on) (more_rows service region from to stripe lawful on less);
     }
 
 zero_byte : (n k : ℕ) → get_or (zeros n) k 0 ≡ 0
@@ -116,8 +117,8 @@ grew_old service old new region from to address lawful all has grew inside =
     let there = row_is service old region from address lawful has inside in
     ap (λ rows. get_or (bytes_of rows row) (address % service.unit) 0) (grew.here stripe (omega arith))
     ∙ ap (λ bytes. get_or bytes (address % service.unit) 0)
-      (get_or_append_left (rows_on old stripe region)
-      (replicate (row_count service region to stripe - length (rows_on old stripe region)) (zeros service.unit)) [] row there.0)
+    (get_or_append_left (rows_on old stripe region)
+    (replicate (row_count service region to stripe - length (rows_on old stripe region)) (zeros service.unit)) [] row there.0)
 
 -- all others are zero
 pub grew_new : (service : Service) (old new : List Kept) (region from to address : ℕ) → IsTrue (is_lawful service) →
@@ -130,11 +131,11 @@ grew_new service old new region from to address lawful all has grew past =
     let on : stripe < stripe_count service = mod-lt (region + address / service.unit) (some_stripes service lawful) in
     let behind : row_count service region from stripe ≤ row = row_behind service region from (address / service.unit) lawful past in
     let count : length (rows_on old stripe region) ≡ row_count service region from stripe =
-      counted (rows_on old stripe region) (row_count service region from stripe) service.unit (has.rows stripe on) in
+    counted (rows_on old stripe region) (row_count service region from stripe) service.unit (has.rows stripe on) in
     let m = row_count service region to stripe - length (rows_on old stripe region) in
     ap (λ rows. get_or (bytes_of rows row) (address % service.unit) 0) (grew.here stripe (omega arith))
     ∙ ap (λ bytes. get_or bytes (address % service.unit) 0)
-      (get_or-append_right (rows_on old stripe region) (replicate m (zeros service.unit)) (length (rows_on old stripe region)) row [] refl (omega arith))
+    (get_or-append_right (rows_on old stripe region) (replicate m (zeros service.unit)) (length (rows_on old stripe region)) row [] refl (omega arith))
     ∙ zero_row m service.unit (row - length (rows_on old stripe region)) (address % service.unit)
 
 -- shrinking
@@ -147,10 +148,11 @@ pub shrank_rows : (service : Service) (old new : List Kept) (region from to : �
     length old ≡ stripe_count service → HasRows service old region from → to ≤ from → Shrank service old new region to →
     HasRows service new region to
 shrank_rows service old new region from to lawful all has less shrank =
-    record { rows = λ stripe on.
-      ap (map length) (shrank.here stripe (omega arith))
-      ∙ shrunk_lengths (rows_on old stripe region) (row_count service region from stripe) (row_count service region to stripe) service.unit
-        (has.rows stripe on) (more_rows service region to from stripe lawful on less);
+    record {
+      rows = λ stripe on.
+          ap (map length) (shrank.here stripe (omega arith))
+          ∙ shrunk_lengths (rows_on old stripe region) (row_count service region from stripe) (row_count service region to stripe) service.unit
+          (has.rows stripe on) (more_rows service region to from stripe lawful on less);
     }
 
 pub shrank_bytes : (service : Service) (old new : List Kept) (region to address : ℕ) → IsTrue (is_lawful service) →
@@ -162,7 +164,7 @@ shrank_bytes service old new region to address lawful all shrank below =
     let row = (place_at service region address).row in
     let on : stripe < stripe_count service = mod-lt (region + address / service.unit) (some_stripes service lawful) in
     let there : row < row_count service region to stripe =
-      row_inside service region to (address / service.unit) lawful (begins service.unit address to below) in
+    row_inside service region to (address / service.unit) lawful (begins service.unit address to below) in
     ap (λ rows. get_or (bytes_of rows row) (address % service.unit) 0) (shrank.here stripe (omega arith))
     ∙ ap (λ bytes. get_or bytes (address % service.unit) 0) (get_or-take (row_count service region to stripe) (rows_on old stripe region) row [] there)
 
@@ -176,7 +178,7 @@ shrank_back service old between new region from all count count' has kept shrank
     elim (cases_lt stripe (length old)) [
       | inl on ↦
           let same : length (rows_on old stripe region) ≡ row_count service region from stripe =
-            counted (rows_on old stripe region) (row_count service region from stripe) service.unit (has.rows stripe (omega arith)) in
+          counted (rows_on old stripe region) (row_count service region from stripe) service.unit (has.rows stripe (omega arith)) in
           shrank.here stripe (omega arith)
           ∙ ap (λ (n : ℕ). take n (rows_on between stripe region)) (sym same)
           ∙ kept.here stripe
@@ -215,7 +217,7 @@ pub bytes_zero : (service : Service) (stores : List Kept) (region size : ℕ) �
 bytes_zero service stores region size each =
     bytes_are service stores region size (zeros size) (length-replicate size 0) (λ k below. each k below ∙ sym (zero_byte size k))
 
-length_resized : (bytes : List ℕ) (from to : ℕ) → length bytes ≡ from → length (resized bytes to) ≡ to
+pub length_resized : (bytes : List ℕ) (from to : ℕ) → length bytes ≡ from → length (resized bytes to) ≡ to
 length_resized bytes from to count =
     let front = length-take to bytes in
     let back = length-replicate {A = ℕ} (to - length bytes) 0 in
@@ -273,7 +275,7 @@ bytes_written service old new region size address from is inside =
 
 pub has_same_shape : (service : Service) (old new : List Kept) (region size : ℕ) → HasRows service old region size →
     ((stripe : ℕ) → map length (rows_on new stripe region) ≡ map length (rows_on old stripe region)) → HasRows service new region size
-has_same_shape service old new region size has shape = record { rows = λ stripe on. shape stripe ∙ has.rows stripe on; }
+has_same_shape service old new region size has shape = record { rows = λ stripe on. shape stripe ∙ has.rows stripe on }
 
 -- some size that is no less has rows
 abbrev HasMore : Service → List Kept → ℕ → ℕ → Type 0
@@ -336,9 +338,9 @@ zeroed_rest service old new region size lawful part is =
       shape = is.shape;
       before = λ a below. is.outside a (inl below);
       rest = λ a past starts.
-        let split : size + (a - size) ≡ a = omega arith in
-        let near = in_rest w size a some past starts in
-        ap (byte_of service new region) (sym split) ∙ is.inside (a - size) (omega arith) ∙ zero_byte n (a - size);
+          let split : size + (a - size) ≡ a = omega arith in
+          let near = in_rest w size a some past starts in
+          ap (byte_of service new region) (sym split) ∙ is.inside (a - size) (omega arith) ∙ zero_byte n (a - size);
       behind = λ a starts. let far = past_rest w size a some part starts in is.outside a (inr (omega arith));
       elsewhere = is.elsewhere;
     }
@@ -346,8 +348,8 @@ zeroed_rest service old new region size lawful part is =
 rest_zeroed_there : (service : Service) (stores : List Kept) (region size : ℕ) (d store : Kept) → IsTrue (is_lawful service) →
     length stores ≡ stripe_count service → HasMore service stores region size → 0 < size % service.unit →
     store ≡ with_row (get_or stores (place_at service region size).stripe d) region (place_at service region size).row
-      (rows.overwritten (row_of (get_or stores (place_at service region size).stripe d) region (place_at service region size).row)
-      (size % service.unit) (zeros (service.unit - size % service.unit))) →
+    (rows.overwritten (row_of (get_or stores (place_at service region size).stripe d) region (place_at service region size).row)
+    (size % service.unit) (zeros (service.unit - size % service.unit))) →
     Zeroed service stores (slice_set stores (place_at service region size).stripe store) region size
 rest_zeroed_there service stores region size d store lawful all has part changed =
     let w = service.unit in
@@ -366,17 +368,17 @@ pub rest_zeroed : (service seen : Service) (stores : List Kept) (region size : �
     length stores ≡ stripe_count service → HasMore service stores region size → place ≡ place_at service region size → seen ≡ service →
     0 < place.at →
     store ≡ with_row (get_or stores place.stripe d) region place.row
-      (rows.overwritten (row_of (get_or stores place.stripe d) region place.row) place.at (zeros (seen.unit - place.at))) →
+    (rows.overwritten (row_of (get_or stores place.stripe d) region place.row) place.at (zeros (seen.unit - place.at))) →
     Zeroed service stores (slice_set stores place.stripe store) region size
 rest_zeroed service seen stores region size place d store lawful all has at is =
     subst (λ (s : Service). 0 < place.at →
-      store ≡ with_row (get_or stores place.stripe d) region place.row
-        (rows.overwritten (row_of (get_or stores place.stripe d) region place.row) place.at (zeros (s.unit - place.at))) →
-      Zeroed service stores (slice_set stores place.stripe store) region size) (sym is)
+    store ≡ with_row (get_or stores place.stripe d) region place.row
+    (rows.overwritten (row_of (get_or stores place.stripe d) region place.row) place.at (zeros (s.unit - place.at))) →
+    Zeroed service stores (slice_set stores place.stripe store) region size) (sym is)
     (subst (λ (p : Place). 0 < p.at →
-      store ≡ with_row (get_or stores p.stripe d) region p.row
-        (rows.overwritten (row_of (get_or stores p.stripe d) region p.row) p.at (zeros (service.unit - p.at))) →
-      Zeroed service stores (slice_set stores p.stripe store) region size) (sym at)
+    store ≡ with_row (get_or stores p.stripe d) region p.row
+    (rows.overwritten (row_of (get_or stores p.stripe d) region p.row) p.at (zeros (service.unit - p.at))) →
+    Zeroed service stores (slice_set stores p.stripe store) region size) (sym at)
     (rest_zeroed_there service stores region size d store lawful all has))
 
 -- resizing
@@ -389,8 +391,8 @@ resized_down service old new region from to lawful all count has less shrank =
       count = count;
       rows = shrank_rows service old new region from to lawful all has less shrank;
       bytes = bytes_resized service old new region from to
-        (λ k low inside. shrank_bytes service old new region to k lawful all shrank inside)
-        (λ k past inside. absurd (omega arith));
+          (λ k low inside. shrank_bytes service old new region to k lawful all shrank inside)
+          (λ k past inside. absurd (omega arith));
       elsewhere = shrank.elsewhere;
     }
 
@@ -413,11 +415,11 @@ resized_up service old between new region from to lawful all count has less grew
       count = zeroed.count ∙ count;
       rows = has_same_shape service between new region to (grew_rows service old between region from to lawful all has less grew) zeroed.shape;
       bytes = bytes_resized service old new region from to
-        (λ k low inside.
+          (λ k low inside.
           zeroed.before k low ∙ grew_old service old between region from to k lawful all has grew (begins service.unit k from low))
-        (λ k past inside. elim (cases_lt (k / service.unit * service.unit) from) [
-          | inl starts ↦ zeroed.rest k past starts
-          | inr behind ↦ zeroed.behind k behind ∙ grew_new service old between region from to k lawful all has grew behind
-        ]);
+          (λ k past inside. elim (cases_lt (k / service.unit * service.unit) from) [
+            | inl starts ↦ zeroed.rest k past starts
+            | inr behind ↦ zeroed.behind k behind ∙ grew_new service old between region from to k lawful all has grew behind
+          ]);
       elsewhere = λ stripe q apart. zeroed.elsewhere stripe q apart ∙ grew.elsewhere stripe q apart;
     }

@@ -94,12 +94,12 @@ updated old new region size updates =
     record {
       here = updates region ∙ where_same (is_at (by_number region) region) size (found old region.0) (tied_same region.0 region.0 refl);
       others = λ q apart.
-        let at : RegionId = record { 0 = q } in
-        updates at ∙ where_other (is_at (by_number region) at) size (found old q) (tied_other region.0 q (λ same. apart (sym same)));
+          let at : RegionId = record { 0 = q } in
+          updates at ∙ where_other (is_at (by_number region) at) size (found old q) (tied_other region.0 q (λ same. apart (sym same)));
     }
 
 pub unchanged : (sizes : Sizes) (region size : ℕ) → found sizes region ≡ Some size → Changed sizes sizes region (Some size)
-unchanged sizes region size is = record { here = is; others = λ q apart. refl; }
+unchanged sizes region size is = record { here = is; others = λ q apart. refl }
 
 inserted_here : (regions : Regions) (region : ℕ) (bytes : List ℕ) → get (insert regions region bytes) region ≡ Some bytes
 inserted_here regions region bytes =
@@ -255,3 +255,12 @@ put_twice regions region first second =
 
 pub got_back : (regions : Regions) (region : ℕ) (bytes : List ℕ) → get (insert regions region bytes) region ≡ Some bytes
 got_back regions region bytes = inserted_here regions region bytes
+
+pub got_beside : (regions : Regions) (region q : ℕ) (bytes : List ℕ) → q ≢ region → get (insert regions region bytes) q ≡ get regions q
+got_beside regions region q bytes apart = inserted_beside regions region q bytes apart
+
+pub gone_here : (regions : Regions) (region : ℕ) → get (remove regions region) region ≡ None
+gone_here regions region = removed_here regions region
+
+pub gone_beside : (regions : Regions) (region q : ℕ) → q ≢ region → get (remove regions region) q ≡ get regions q
+gone_beside regions region q apart = removed_beside regions region q apart

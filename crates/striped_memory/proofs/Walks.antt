@@ -30,28 +30,28 @@ walked_more change region i old new store walked inside changed =
     let there : i < length new = omega arith in
     let now : store_at (slice_set new i store) i ≡ store = get_or-set_same new i store empty there in
     let other : (k : ℕ) → k ≢ i → store_at (slice_set new i store) k ≡ store_at new k =
-      λ k differ. get_or-set_other new i k store empty differ in
+    λ k differ. get_or-set_other new i k store empty differ in
     let start : store_at new i ≡ store_at old i = walked.left i (omega arith) in
     record {
       count = length-set new i store ∙ count;
       here = λ k below.
-        elim (cases_eq k i) [
-          | inl same ↦
-              subst (λ (n : ℕ). rows_on (slice_set new i store) n region ≡ change n (rows_on old n region)) (sym same)
-              (ap (λ kept. rows_of kept region) (now ∙ changed) ∙ rows_here (store_at new i) region (change i (rows_on new i region))
-              ∙ ap (λ kept. change i (rows_of kept region)) start)
-          | inr differ ↦ ap (λ kept. rows_of kept region) (other k differ) ∙ walked.here k (omega (arith, differ))
-        ];
+          elim (cases_eq k i) [
+            | inl same ↦
+                subst (λ (n : ℕ). rows_on (slice_set new i store) n region ≡ change n (rows_on old n region)) (sym same)
+                (ap (λ kept. rows_of kept region) (now ∙ changed) ∙ rows_here (store_at new i) region (change i (rows_on new i region))
+                ∙ ap (λ kept. change i (rows_of kept region)) start)
+            | inr differ ↦ ap (λ kept. rows_of kept region) (other k differ) ∙ walked.here k (omega (arith, differ))
+          ];
       left = λ k past. let differ : k ≢ i = omega arith in other k differ ∙ walked.left k (omega arith);
       elsewhere = λ k q apart.
-        elim (cases_eq k i) [
-          | inl same ↦
-              subst (λ (n : ℕ). rows_on (slice_set new i store) n q ≡ rows_on old n q) (sym same)
-              (ap (λ kept. rows_of kept q) (now ∙ changed)
-              ∙ rows_elsewhere (store_at new i) region (change i (rows_on new i region)) q apart
-              ∙ ap (λ kept. rows_of kept q) start)
-          | inr differ ↦ ap (λ kept. rows_of kept q) (other k differ) ∙ walked.elsewhere k q apart
-        ];
+          elim (cases_eq k i) [
+            | inl same ↦
+                subst (λ (n : ℕ). rows_on (slice_set new i store) n q ≡ rows_on old n q) (sym same)
+                (ap (λ kept. rows_of kept q) (now ∙ changed)
+                ∙ rows_elsewhere (store_at new i) region (change i (rows_on new i region)) q apart
+                ∙ ap (λ kept. rows_of kept q) start)
+            | inr differ ↦ ap (λ kept. rows_of kept q) (other k differ) ∙ walked.elsewhere k q apart
+          ];
     }
 
 -- so many rows, at least
@@ -84,6 +84,6 @@ past_rows stores stripe region past =
 pub walked_dropped : (region i : ℕ) (old new : List Kept) → Walked to_none region i old new → length new ≤ i → Dropped old new region
 walked_dropped region i old new walked all =
     record {
-      here = λ stripe. elim (cases_lt stripe i) [ | inl below ↦ walked.here stripe below | inr past ↦ past_rows new stripe region (omega arith) ];
+      here = λ stripe. elim (cases_lt stripe i) [ inl below ↦ walked.here stripe below | inr past ↦ past_rows new stripe region (omega arith) ];
       elsewhere = walked.elsewhere;
     }

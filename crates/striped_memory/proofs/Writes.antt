@@ -119,7 +119,7 @@ apart_in_unit w address n b same apart =
     let p = mod-add-div' b w in
     let q = mod-add-div' address w in
     let products : b / w * w ≡ address / w * w = ap (λ (k : ℕ). k * w) same in
-    elim apart [ | inl before ↦ inl (omega arith) | inr behind ↦ inr (omega arith) ]
+    elim apart [ inl before ↦ inl (omega arith) | inr behind ↦ inr (omega arith) ]
 
 -- the bytes from an address on, written at its place
 written_there : (service : Service) (old : List Kept) (region address : ℕ) (from : List ℕ) (d store : Kept) →
@@ -127,7 +127,7 @@ written_there : (service : Service) (old : List Kept) (region address : ℕ) (fr
     Reaches (rows_of (get_or old (place_at service region address).stripe d) region) (place_at service region address).row (place_at service region address).at (length from) →
     address % service.unit + length from ≤ service.unit →
     store ≡ with_row (get_or old (place_at service region address).stripe d) region (place_at service region address).row
-      (overwritten (row_of (get_or old (place_at service region address).stripe d) region (place_at service region address).row) (place_at service region address).at from) →
+    (overwritten (row_of (get_or old (place_at service region address).stripe d) region (place_at service region address).row) (place_at service region address).at from) →
     Written service old (slice_set old (place_at service region address).stripe store) region address from
 unfolding byte_of
 written_there service old region address from d store lawful stripe reach fits changed =
@@ -137,12 +137,12 @@ written_there service old region address from d store lawful stripe reach fits c
       count = length-set old place.stripe store;
       shape = same_shape old region place.stripe place.row place.at from d store stripe reach changed;
       inside = λ i below.
-        ap (byte_at (slice_set old place.stripe store) region) (further service region address i (omega arith))
-        ∙ put_here old region place.stripe place.row place.at from d store stripe reach changed i below;
+          ap (byte_at (slice_set old place.stripe store) region) (further service region address i (omega arith))
+          ∙ put_here old region place.stripe place.row place.at from d store stripe reach changed i below;
       outside = λ b apart.
-        kept_place old region place.stripe place.row place.at from d store stripe reach changed
-        ((region + b / service.unit) % s) (b / service.unit / s) (b % service.unit)
-        (λ same also. apart_in_unit service.unit address (length from) b
+          kept_place old region place.stripe place.row place.at from d store stripe reach changed
+          ((region + b / service.unit) % s) (b / service.unit / s) (b % service.unit)
+          (λ same also. apart_in_unit service.unit address (length from) b
           (same_unit s region (b / service.unit) (address / service.unit) (some_stripes service lawful) same also) apart);
       elsewhere = others old region place.stripe place.row place.at from d store stripe reach changed;
     }
@@ -156,7 +156,7 @@ pub written : (service : Service) (old : List Kept) (region address : ℕ) (from
 written service old region address from place d store lawful at =
     subst
     (λ (place : Place). place.stripe < length old →
-      Reaches (rows_of (get_or old place.stripe d) region) place.row place.at (length from) → address % service.unit + length from ≤ service.unit →
-      store ≡ with_row (get_or old place.stripe d) region place.row (overwritten (row_of (get_or old place.stripe d) region place.row) place.at from) →
-      Written service old (slice_set old place.stripe store) region address from)
+    Reaches (rows_of (get_or old place.stripe d) region) place.row place.at (length from) → address % service.unit + length from ≤ service.unit →
+    store ≡ with_row (get_or old place.stripe d) region place.row (overwritten (row_of (get_or old place.stripe d) region place.row) place.at from) →
+    Written service old (slice_set old place.stripe store) region address from)
     (sym at) (written_there service old region address from d store lawful)

@@ -24,10 +24,10 @@ both_written xs first second a inside =
     let sum : a + length first + length second ≡ a + length (first ++ second) = let l = length-append first second in omega (arith, l) in
     ap (λ (ys : List ℕ). (ys ++ second) ++ drop (a + length first + length second) (front ++ rest)) (take_at front rest (a + length first) long)
     ∙ ap (λ (ys : List ℕ). (front ++ second) ++ ys)
-      (ap (λ (n : ℕ). drop (n + length second) (front ++ rest)) (sym long)
-      ∙ drop-append-add front rest (length second)
-      ∙ drop-drop (length second) (a + length first) xs
-      ∙ ap (λ (n : ℕ). drop n xs) sum)
+    (ap (λ (n : ℕ). drop (n + length second) (front ++ rest)) (sym long)
+    ∙ drop-append-add front rest (length second)
+    ∙ drop-drop (length second) (a + length first) xs
+    ∙ ap (λ (n : ℕ). drop n xs) sum)
     ∙ ap (λ (ys : List ℕ). ys ++ drop (a + length (first ++ second)) xs) (append_assoc (take a xs) first second)
 
 more_zeros : (xs : List ℕ) (a k m : ℕ) → a + k ≤ length xs →
@@ -81,14 +81,14 @@ zeros_more memory now new region address n left part e change inside least less 
     let done = overwritten address (zeros (n - left)) (bytes_of memory region) in
     let sum : (n - left) + part ≡ n - (left - part) = omega arith in
     let both : overwritten (address + (n - left)) (zeros part) (bytes_of (with_bytes memory region done) region)
-        ≡ overwritten address (zeros (n - (left - part))) (bytes_of memory region) =
-      ap (overwritten (address + (n - left)) (zeros part)) (bytes_now memory region done)
-      ∙ more_zeros (bytes_of memory region) address (n - left) part (omega arith)
-      ∙ ap (λ (k : ℕ). overwritten address (zeros k) (bytes_of memory region)) sum in
+    ≡ overwritten address (zeros (n - (left - part))) (bytes_of memory region) =
+    ap (overwritten (address + (n - left)) (zeros part)) (bytes_now memory region done)
+    ∙ more_zeros (bytes_of memory region) address (n - left) part (omega arith)
+    ∙ ap (λ (k : ℕ). overwritten address (zeros k) (bytes_of memory region)) sum in
     let regions : insert (insert memory.regions region done) region (overwritten (address + (n - left)) (zeros part) (bytes_of (with_bytes memory region done) region))
-        ≡ insert memory.regions region (overwritten address (zeros (n - (left - part))) (bytes_of memory region)) =
-      ap (insert (insert memory.regions region done) region) both
-      ∙ put_twice memory.regions region done (overwritten address (zeros (n - (left - part))) (bytes_of memory region)) in
+    ≡ insert memory.regions region (overwritten address (zeros (n - (left - part))) (bytes_of memory region)) =
+    ap (insert (insert memory.regions region done) region) both
+    ∙ put_twice memory.regions region done (overwritten address (zeros (n - (left - part))) (bytes_of memory region)) in
     change
     ∙ ap (λ (m : Striped). with_bytes m region (overwritten (address + (n - left)) (zeros part) (bytes_of m region))) e
-    ∙ λ i. record { service = memory.service; regions = regions i; }
+    ∙ λ i. record { service = memory.service; regions = regions i }

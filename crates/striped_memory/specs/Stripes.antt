@@ -48,7 +48,7 @@ row_count service region size stripe =
 -- on each stripe the region has the rows that its size asks for, each of one unit
 pub record HasRows (service : Service) (stores : List Kept) (region size : ℕ) : Type 0 where
   pub rows : (stripe : ℕ) → stripe < stripe_count service →
-    map length (rows_on stores stripe region) ≡ replicate (row_count service region size stripe) service.unit
+      map length (rows_on stores stripe region) ≡ replicate (row_count service region size stripe) service.unit
 
 -- changes of the stores
 
@@ -63,7 +63,7 @@ SameRows old new = (stripe region : ℕ) → rows_on new stripe region ≡ rows_
 -- the region has zero rows more, up to those of this size
 pub record Grew (service : Service) (old new : List Kept) (region size : ℕ) : Type 0 where
   pub here : (stripe : ℕ) → stripe < length old →
-    rows_on new stripe region ≡ grown (rows_on old stripe region) (row_count service region size stripe) service.unit
+      rows_on new stripe region ≡ grown (rows_on old stripe region) (row_count service region size stripe) service.unit
   pub elsewhere : SameElsewhere old new region
 
 -- the region has at least the rows that it had
@@ -74,7 +74,7 @@ pub record KeptFront (old new : List Kept) (region : ℕ) : Type 0 where
 -- the region has at most the rows of this size
 pub record Shrank (service : Service) (old new : List Kept) (region size : ℕ) : Type 0 where
   pub here : (stripe : ℕ) → stripe < length old →
-    rows_on new stripe region ≡ take (row_count service region size stripe) (rows_on old stripe region)
+      rows_on new stripe region ≡ take (row_count service region size stripe) (rows_on old stripe region)
   pub elsewhere : SameElsewhere old new region
 
 -- in the unit in which the byte behind so many bytes lies, the bytes from there on are zero
@@ -83,9 +83,9 @@ pub record Zeroed (service : Service) (old new : List Kept) (region size : ℕ) 
   pub shape : (stripe : ℕ) → map length (rows_on new stripe region) ≡ map length (rows_on old stripe region)
   pub before : (address : ℕ) → address < size → byte_of service new region address ≡ byte_of service old region address
   pub rest : (address : ℕ) → size ≤ address → address / service.unit * service.unit < size →
-    byte_of service new region address ≡ 0
+      byte_of service new region address ≡ 0
   pub behind : (address : ℕ) → size ≤ address / service.unit * service.unit →
-    byte_of service new region address ≡ byte_of service old region address
+      byte_of service new region address ≡ byte_of service old region address
   pub elsewhere : SameElsewhere old new region
 
 -- the region has the rows of its new size, and the bytes that it had as far as they go, and then zeros

@@ -4,6 +4,8 @@
 mod laws;
 mod memory;
 mod rows;
+#[cfg(test)]
+mod tests;
 
 pub use laws::{
     addresses_come_back, reads_of_items, rows_are_exact, writes_are_read, writes_of_items,

@@ -1,6 +1,6 @@
 //! The bytes of all regions.
 
-ghost use Rattle.std.specs.Prelude.{◌≡◌, ◌+◌, ◌≤◌, ◌<◌, ◌^◌, length, slice_range, IfOk, OnOk, OnErr, IsTrue};
+ghost use Rattle.std.specs.Prelude.{◌≡◌, ◌↔◌, ◌+◌, ◌%◌, ◌≤◌, ◌<◌, ◌^◌, length, slice_range, IfOk, IfSome, IsSome, OnOk, OnErr, IsTrue};
 ghost use Rattle.std.specs.FinMap as map;
 ghost use Rattle.std.specs.Option.{option_map};
 ghost use Rattle.fam_layout.specs.Layouts.{is_lawful};
@@ -54,11 +54,32 @@ impl StripedMemory {
         })
     }
 
+    /// How the regions are laid out.
+    pub fn layout(&self) -> &Layout
+        ensures service { result.now ≡ self.now.service }
+        ensures lawful { IsTrue (is_lawful self.now.service) }
+    {
+        &self.layout
+    }
+
     /// How long a region is. None where it is not there.
     pub fn size(&self, region: RegionId) -> Option<u64>
-        ensures { result ≡ option_map length (map.get self.now.regions region.0) }
+        ensures value { result ≡ option_map length (map.get self.now.regions region.0) }
+        ensures there { IsSome result ↔ IsThere self.now region.0 }
+        ensures small { IfSome result (λ size. size ≤ 2 ^ 26) }
     {
         self.sizes.get(&region).copied()
+    }
+
+    /// Whether `n` bytes of a region from an address on are there and lie in one unit.
+    pub fn lies_in_unit(&self, region: RegionId, address: u64, n: u64) -> bool
+        ensures { IsTrue result ↔ LiesInUnit self.now region.0 address n }
+    {
+        let unit = u64::from(self.layout.service().unit);
+        match self.sizes.get(&region) {
+            Some(size) => lies_in(*size, unit, address, n),
+            None => false,
+        }
     }
 
     /// Fills `into` with the bytes of a region from an address on.
@@ -171,4 +192,12 @@ impl StripedMemory {
         *place = size;
         Ok(())
     }
+}
+
+/// Whether `n` bytes from an address on lie within a size and in one unit.
+fn lies_in(size: u64, unit: u64, address: u64, n: u64) -> bool
+    requires { 0 < unit }
+    ensures { IsTrue result ↔ ((address + n ≤ size) × (address % unit + n ≤ unit)) }
+{
+    n <= size && address <= size - n && n <= unit - address % unit
 }

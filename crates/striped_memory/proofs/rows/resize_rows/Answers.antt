@@ -13,10 +13,12 @@ returns-in-Err-clause-err c =
     c.requires.all (omega arith) (omega arith) c.requires.rows c.in-Err.ensures.err c.shrink_rows-in-Err.ensures
 
 pub zero_rest-requires-clause-rows : goal.zero_rest-requires-clause-rows
-zero_rest-requires-clause-rows c =
-    (c.args.new, omega arith,
-     grew_rows c.args.layout.now c.args.stores.now c.grow_rows.new.stores c.args.region.0 c.args.old c.args.new
-     c.requires.lawful c.requires.all c.requires.rows (omega arith) c.in_default.ensures.ok)
+zero_rest-requires-clause-rows c = (
+  c.args.new,
+  omega arith,
+  grew_rows c.args.layout.now c.args.stores.now c.grow_rows.new.stores c.args.region.0 c.args.old c.args.new
+      c.requires.lawful c.requires.all c.requires.rows (omega arith) c.in_default.ensures.ok,
+)
 
 pub returns-clause-ok : goal.returns-clause-ok
 returns-clause-ok c =

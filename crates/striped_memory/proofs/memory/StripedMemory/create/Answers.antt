@@ -40,8 +40,8 @@ returns-in-Err-clause-err c =
     ap (λ (stores : List Kept). seen s.layout stores s.sizes.entries)
     (with_items_is (with_items s.stores grown) new (c.drop_rows.auto.stores ∙ c.deref_mut-in-Err.ensures.len))
     ∙ undone_seen s.layout s.stores.items grown new s.sizes.entries s.sizes.entries q
-      kept.elsewhere (subst (λ (stores : List Kept). Dropped stores new q) between c.drop_rows.ensures) none
-      (missing s.sizes.entries q none)
+    kept.elsewhere (subst (λ (stores : List Kept). Dropped stores new q) between c.drop_rows.ensures) none
+    (missing s.sizes.entries q none)
     ∙ c.self.view_is
 
 pub invariant_of-self-in-Ok : goal.invariant_of-self-in-Ok
@@ -67,8 +67,8 @@ returns-in-Ok-clause-ok c =
     ap (λ (stores : List Kept). seen s.layout stores c.insert.new.self.entries)
     (with_items_is s.stores grown (c.grow_rows.auto.stores ∙ c.deref_mut.ensures.len))
     ∙ created_seen s.layout s.stores.items grown s.sizes.entries c.insert.new.self.entries q c.args.size c.self.invariant none
-      (subst (λ (stores : List Kept). Grew s.layout stores grown q c.args.size) c.deref_mut.ensures.value c.in_default.ensures.ok)
-      (updated s.sizes.entries c.insert.new.self.entries c.args.region (Some c.args.size) c.in-Ok.ensures.updates.0)
+    (subst (λ (stores : List Kept). Grew s.layout stores grown q c.args.size) c.deref_mut.ensures.value c.in_default.ensures.ok)
+    (updated s.sizes.entries c.insert.new.self.entries c.args.region (Some c.args.size) c.in-Ok.ensures.updates.0)
     ∙ ap (λ (m : Striped). with_bytes m q (zeros c.args.size)) c.self.view_is
 
 pub invariant_of-self-in-Err-insert : goal.invariant_of-self-in-Err-insert
@@ -101,6 +101,6 @@ returns-in-Err-insert-clause-err c =
     ap (λ (stores : List Kept). seen s.layout stores c.insert.new.self.entries)
     (with_items_is (with_items s.stores grown) new (c.drop_rows-in-Err-insert.auto.stores ∙ c.deref_mut-in-Err-insert.ensures.len))
     ∙ undone_seen s.layout s.stores.items grown new s.sizes.entries c.insert.new.self.entries q
-      grew.elsewhere (subst (λ (stores : List Kept). Dropped stores new q) between c.drop_rows-in-Err-insert.ensures) none
-      (subst (λ (sizes : Sizes). Changed s.sizes.entries sizes q None) (sym c.in-Err-insert.ensures.err) (missing s.sizes.entries q none))
+    grew.elsewhere (subst (λ (stores : List Kept). Dropped stores new q) between c.drop_rows-in-Err-insert.ensures) none
+    (subst (λ (sizes : Sizes). Changed s.sizes.entries sizes q None) (sym c.in-Err-insert.ensures.err) (missing s.sizes.entries q none))
     ∙ c.self.view_is

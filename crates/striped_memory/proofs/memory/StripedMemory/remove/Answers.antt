@@ -26,6 +26,6 @@ returns c =
     let new = c.drop_rows.new.stores in
     ap (λ (stores : List Kept). seen s.layout stores c.remove.new.self.entries) (with_items_is s.stores new (c.drop_rows.auto.stores ∙ c.deref_mut.ensures.len))
     ∙ removed_seen s.layout s.stores.items new s.sizes.entries c.remove.new.self.entries c.args.region.0
-      (subst (λ (stores : List Kept). Dropped stores new c.args.region.0) c.deref_mut.ensures.value c.drop_rows.ensures)
-      (updated s.sizes.entries c.remove.new.self.entries c.args.region None c.remove.ensures.updates.0)
+    (subst (λ (stores : List Kept). Dropped stores new c.args.region.0) c.deref_mut.ensures.value c.drop_rows.ensures)
+    (updated s.sizes.entries c.remove.new.self.entries c.args.region None c.remove.ensures.updates.0)
     ∙ ap (λ (m : Striped). without m c.args.region.0) c.self.view_is

@@ -45,9 +45,9 @@ returns-in_err-resize_rows-clause-err c =
     on_any_err c.from_residual.result
     (ap (λ (stores : List Kept). seen s.layout stores sizes.entries) (with_items_is s.stores new (c.resize_rows.auto.stores ∙ c.deref_mut.ensures.len))
     ∙ same_seen s.layout s.stores.items new s.sizes.entries sizes.entries c.args.region.0 n
-      (subst (λ (stores : List Kept). SameRows stores new) c.deref_mut.ensures.value c.in_err-resize_rows.ensures.err)
-      c.in-Some.ensures.value
-      (written_through s.sizes sizes c.args.region n n c.in-Some.ensures.value (c.get_mut.follows.holds n))
+    (subst (λ (stores : List Kept). SameRows stores new) c.deref_mut.ensures.value c.in_err-resize_rows.ensures.err)
+    c.in-Some.ensures.value
+    (written_through s.sizes sizes c.args.region n n c.in-Some.ensures.value (c.get_mut.follows.holds n))
     ∙ c.self.view_is)
 
 pub invariant_of-self-2 : goal.invariant_of-self-2
@@ -70,6 +70,6 @@ returns-clause-ok c =
     let sizes = c.get_mut.follows.lender c.args.size in
     ap (λ (stores : List Kept). seen s.layout stores sizes.entries) (with_items_is s.stores new (c.resize_rows.auto.stores ∙ c.deref_mut.ensures.len))
     ∙ resized_seen s.layout s.stores.items new s.sizes.entries sizes.entries c.args.region.0 c.in-Some.place.now c.args.size c.args.self.now c.self.view_is
-      c.in-Some.ensures.value
-      (subst (λ (stores : List Kept). Resized s.layout stores new c.args.region.0 c.in-Some.place.now c.args.size) c.deref_mut.ensures.value c.in_ok-resize_rows.ensures.ok)
-      (written_through s.sizes sizes c.args.region c.in-Some.place.now c.args.size c.in-Some.ensures.value (c.get_mut.follows.holds c.args.size))
+    c.in-Some.ensures.value
+    (subst (λ (stores : List Kept). Resized s.layout stores new c.args.region.0 c.in-Some.place.now c.args.size) c.deref_mut.ensures.value c.in_ok-resize_rows.ensures.ok)
+    (written_through s.sizes sizes c.args.region c.in-Some.place.now c.args.size c.in-Some.ensures.value (c.get_mut.follows.holds c.args.size))

@@ -40,5 +40,5 @@ loop-left-preserved c =
       wide = kept.wide;
       unit = kept.unit;
       written = zeros_more c.args.self.now c.loop-left.self c.zero_part.new.self c.args.region.0 c.args.address c.args.n c.loop-left.left c.min-part.result
-        kept.written c.zero_part.ensures c.requires.inside least (omega (arith, cut));
+          kept.written c.zero_part.ensures c.requires.inside least (omega (arith, cut));
     }

@@ -10,7 +10,7 @@ invariant-loop-left l =
       least : l.left ≤ l.n;
       wide : 0 < l.unit;
       unit : l.unit ≡ l.fn.self.service.unit;
-      written : l.self ≡ with_bytes l.fn.self l.region.0 (overwritten l.address (zeros (l.n - l.left)) (bytes_of l.fn.self l.region.0))
+      written : l.self ≡ with_bytes l.fn.self l.region.0 (overwritten l.address (zeros (l.n - l.left)) (bytes_of l.fn.self l.region.0));
     }
 
 abbrev pub decreases-loop-left : goal.decreases-loop-left
