@@ -1,22 +1,21 @@
 -- Reads and writes of a region, as its bytes show them.
-use Rattle.std.proofs.Common.{◌≡◌, ◌≢◌, ℕ, ◌+◌, ◌-◌, ◌*◌, ◌/◌, ◌%◌, ◌<◌, ◌≤◌, Bool, true, false, ◌==◌, List, [], ◌++◌, length, map, get_or, take, drop, slice_set, slice_range, refl, sym, ap, subst, ◌∙◌, inl, inr, arith}
-use Rattle.std.specs.Prelude.{◌↔◌, None, Some, unwrap_or, is_some, IsSome, IsTrue}
+use Rattle.std.proofs.Common.{◌≡◌, ℕ, ◌+◌, ◌-◌, ◌/◌, ◌%◌, ◌<◌, ◌≤◌, Bool, true, false, ◌==◌, List, [], ◌++◌, length, get_or, take, drop, slice_set, slice_range, sym, ap, subst, ◌∙◌, arith}
+use Rattle.std.specs.Prelude.{◌↔◌, None, Some, is_some, IsSome}
 use Rattle.std.specs.Option.{option_map}
-use Rattle.std.specs.FinMap.{FinMap, empty, get, insert}
+use Rattle.std.specs.FinMap.{empty, get, insert}
 use Rattle.std.proofs.Math.Nat.{mod-lt}
 use Rattle.std.proofs.lemmas.List.{ext_get_or, get_or_read, nil_from_length, append-nil, take-append-drop, length-replicate}
 use Rattle.std.proofs.lemmas.Bool.Decides.{nat_tests}
 use Rattle.fam_model.specs.declared.piece.Place.{Place}
 use Rattle.fam_model.specs.declared.service.Service.{Service}
-use Rattle.fam_model.specs.Pieces.{stripe_count, place_at}
+use Rattle.fam_model.specs.Pieces.{place_at}
 use Rattle.fam_model.specs.PieceStep.{overwritten}
-use Rattle.fam_layout.specs.Layouts.{is_lawful}
 use Rattle.stripe_store.specs.Kept.{Kept, rows_of, row_of, with_row}
 use Rattle.stripe_store.specs.Rows as rows
 use Rattle.stripe_store.specs.Rows.{Reaches}
 use Rattle.striped_memory.specs.Striped.{Striped, bytes_of, with_bytes, zeros, LiesInUnit, LiesAt, address_at}
-use Rattle.striped_memory.specs.Stripes.{store_at, rows_on, byte_at, byte_of, bytes_in, Sizes, found, size_in, regions_of, IsStriped}
-use Rattle.striped_memory.proofs.Places.{some_stripes, further, address_is}
+use Rattle.striped_memory.specs.Stripes.{rows_on, byte_at, byte_of, bytes_in, Sizes, found, size_in, regions_of, IsStriped}
+use Rattle.striped_memory.proofs.Places.{some_stripes, further}
 use Rattle.striped_memory.proofs.Ranges.{length_inside, byte_of_range}
 use Rattle.striped_memory.proofs.Writes.{Written, written}
 use Rattle.striped_memory.proofs.Sizes.{row_is, begins, byte_in, length_of_bytes, bytes_written, has_same_shape}
@@ -190,23 +189,6 @@ nothing_read into bytes address none =
     let zero_long : (address + length into) - address ≡ 0 = omega arith in
     nil_from_length into none ∙ sym (ap (λ (k : ℕ). take k (drop address bytes)) zero_long)
 
--- the place of an address
-
-pub lies_at : (memory : Striped) (region address n : ℕ) (place : Place) → IsTrue (is_lawful memory.service) →
-    place ≡ place_at memory.service region address → LiesInUnit memory region address n → LiesAt memory region place n
-lies_at memory region address n place lawful at lies =
-    let back : address_at memory.service region place ≡ address =
-    ap (address_at memory.service region) at ∙ address_is memory.service region address lawful in
-    record {
-      is_place = at ∙ ap (place_at memory.service region) (sym back);
-      lies = subst (λ (a : ℕ). LiesInUnit memory region a n) (sym back) lies;
-    }
-
-pub address_back : (memory : Striped) (region address : ℕ) (place : Place) → IsTrue (is_lawful memory.service) →
-    place ≡ place_at memory.service region address → address_at memory.service region place ≡ address
-address_back memory region address place lawful at =
-    ap (address_at memory.service region) at ∙ address_is memory.service region address lawful
-
 -- in the words of the contracts
 
 pub some_by : (b : Bool) (n : ℕ) → b ≡ (n == 0) → b ≡ false → 0 < n
@@ -293,16 +275,16 @@ lies_by : (service : Service) (stores : List Kept) (sizes : Sizes) (region addre
     address + n ≤ size → address % service.unit + n ≤ service.unit → LiesInUnit (seen service stores sizes) region address n
 lies_by service stores sizes region address n size is inside fits =
     let there : IsSome (get (regions_of service stores sizes) region) =
-      ap is_some (get-regions_of service stores sizes region ∙ ap (option_map (bytes_in service stores region)) (sym is)) in
+    ap is_some (get-regions_of service stores sizes region ∙ ap (option_map (bytes_in service stores region)) (sym is)) in
     let count : length (bytes_of (seen service stores sizes) region) ≡ size =
-      ap length (bytes_there service stores sizes region size (sym is)) ∙ length_of_bytes service stores region size in
-    record { there = there; inside = omega (arith, count); in_unit = fits; }
+    ap length (bytes_there service stores sizes region size (sym is)) ∙ length_of_bytes service stores region size in
+    record { there = there; inside = omega (arith, count); in_unit = fits }
 
 lies_facts : (service : Service) (stores : List Kept) (sizes : Sizes) (region address n size : ℕ) → Some size ≡ found sizes region →
     LiesInUnit (seen service stores sizes) region address n → (address + n ≤ size) × (address % service.unit + n ≤ service.unit)
 lies_facts service stores sizes region address n size is lies =
     let count : length (bytes_of (seen service stores sizes) region) ≡ size =
-      ap length (bytes_there service stores sizes region size (sym is)) ∙ length_of_bytes service stores region size in
+    ap length (bytes_there service stores sizes region size (sym is)) ∙ length_of_bytes service stores region size in
     let inside = lies.inside in
     (omega (arith, count, inside), lies.in_unit)
 
@@ -310,10 +292,11 @@ pub lies_exactly : (service : Service) (stores : List Kept) (sizes : Sizes) (reg
     seen service stores sizes ≡ memory → Some size ≡ found sizes region → unit ≡ service.unit →
     ((address + n ≤ size) × (address % unit + n ≤ unit)) ↔ LiesInUnit memory region address n
 lies_exactly service stores sizes region address n size unit memory e is width =
-    subst (λ (m : Striped). ((address + n ≤ size) × (address % unit + n ≤ unit)) ↔ LiesInUnit m region address n) e
-    (λ both. lies_by service stores sizes region address n size is both.0 (subst (λ (w : ℕ). address % w + n ≤ w) width both.1),
-     λ lies. let facts = lies_facts service stores sizes region address n size is lies in
-       (facts.0, subst (λ (w : ℕ). address % w + n ≤ w) (sym width) facts.1))
+    subst (λ (m : Striped). ((address + n ≤ size) × (address % unit + n ≤ unit)) ↔ LiesInUnit m region address n) e (
+      λ both. lies_by service stores sizes region address n size is both.0 (subst (λ (w : ℕ). address % w + n ≤ w) width both.1),
+      λ lies. let facts = lies_facts service stores sizes region address n size is lies in
+          (facts.0, subst (λ (w : ℕ). address % w + n ≤ w) (sym width) facts.1),
+    )
 
 pub lies_nowhere : (service : Service) (stores : List Kept) (sizes : Sizes) (region address n : ℕ) (memory : Striped) →
     seen service stores sizes ≡ memory → None ≡ found sizes region → LiesInUnit memory region address n → ⊥

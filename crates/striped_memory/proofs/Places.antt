@@ -1,12 +1,11 @@
 -- Units, their stripes and their rows, in numbers.
-use Rattle.std.proofs.Common.{◌≡◌, ◌≢◌, ℕ, ◌+◌, ◌-◌, ◌*◌, ◌/◌, ◌%◌, ◌<◌, ◌≤◌, refl, sym, ap, subst, ◌∙◌, inl, inr, arith}
-use Rattle.std.specs.Prelude.{◌⊎◌, min, IsTrue}
+use Rattle.std.proofs.Common.{◌≡◌, ℕ, ◌+◌, ◌-◌, ◌*◌, ◌/◌, ◌%◌, ◌<◌, ◌≤◌, refl, ap, ◌∙◌, inl, inr, arith}
+use Rattle.std.specs.Prelude.{◌⊎◌, IsTrue}
 use Rattle.std.specs.Int.{div_ceil}
 use Rattle.std.proofs.Math.Nat.{mod-add-mod, mod-add-div', mod-lt, add-mul-mod_self_right, mul-le-mul_right}
 use Rattle.std.proofs.lemmas.Bool.Decides.{nat_tests}
 use Rattle.std.proofs.lemmas.Grind.{div_ceil_times}
 use Rattle.std.proofs.lemmas.Nat.{le-div, div-mul-add, mod-mul-add}
-use Rattle.fam_model.specs.declared.piece.Place.{Place}
 use Rattle.fam_model.specs.declared.service.Service.{Service}
 use Rattle.fam_model.specs.Pieces.{stripe_count, place_at}
 use Rattle.fam_layout.specs.Layouts.{is_lawful}

@@ -1,12 +1,11 @@
 -- Ranges of bytes, before and after a write.
-use Rattle.std.proofs.Common.{◌≡◌, ℕ, ◌+◌, ◌-◌, ◌<◌, ◌≤◌, List, [], ◌++◌, length, take, drop, get_or, slice_range, refl, sym, ap, subst, ◌∙◌, inl, inr, arith}
-use Rattle.std.specs.Prelude.{◌⊎◌, min, replicate}
+use Rattle.std.proofs.Common.{◌≡◌, ℕ, ◌+◌, ◌-◌, ◌<◌, ◌≤◌, List, length, take, drop, get_or, slice_range, sym, ap, ◌∙◌, inl, inr, arith}
+use Rattle.std.specs.Prelude.{min}
 use Rattle.std.proofs.lemmas.Bool.{cases_lt}
-use Rattle.std.proofs.lemmas.List.{same_lists, length-take, length-drop, length-append, length-replicate, drop-take, take-take, drop-drop, get_or-replicate, get_or-append_right, get_or_append_left, get_or-take}
+use Rattle.std.proofs.lemmas.List.{same_lists, length-take, length-drop, drop-take, take-take, drop-drop}
 use Rattle.std.proofs.lemmas.List.Edits.{get_or-between}
 use Rattle.fam_model.specs.PieceStep.{overwritten}
 use Rattle.stripe_store.proofs.Laws.{byte_put, byte_before, byte_after, length-overwritten, range-overwritten}
-use Rattle.striped_memory.specs.Striped.{zeros, resized}
 use Rattle.striped_memory.specs.Laws.{WritesAreRead, WritesStayInside, WritesOfItems, ReadsOfItems}
 
 -- n bytes from i on

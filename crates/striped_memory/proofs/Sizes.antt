@@ -1,6 +1,6 @@
 -- The rows and bytes of a region as its size changes.
-use Rattle.std.proofs.Common.{◌≡◌, ◌≢◌, ℕ, zero, suc, ◌+◌, ◌-◌, ◌*◌, ◌/◌, ◌%◌, ◌<◌, ◌≤◌, List, [], ◌∷◌, ◌++◌, length, map, take, get_or, slice_set, refl, sym, ap, subst, ◌∙◌, inl, inr, arith}
-use Rattle.std.specs.Prelude.{◌⊎◌, min, replicate, IsTrue}
+use Rattle.std.proofs.Common.{◌≡◌, ℕ, zero, suc, ◌+◌, ◌-◌, ◌*◌, ◌/◌, ◌%◌, ◌<◌, ◌≤◌, List, [], ◌∷◌, ◌++◌, length, map, take, get_or, slice_set, refl, sym, ap, subst, ◌∙◌, inl, inr, arith}
+use Rattle.std.specs.Prelude.{replicate, IsTrue}
 use Rattle.std.specs.FinMap.{empty}
 use Rattle.std.proofs.Math.Nat.{mod-add-div', mul-le-mul_right}
 use Rattle.std.proofs.Math.ListN.{get_or-map}
@@ -16,8 +16,8 @@ use Rattle.stripe_store.specs.Kept.{Kept, rows_of, row_of, with_row}
 use Rattle.stripe_store.specs.Rows as rows
 use Rattle.stripe_store.specs.Rows.{bytes_of, grown, Reaches}
 use Rattle.stripe_store.proofs.Laws.{byte_put, byte_before, byte_after, length-overwritten}
-use Rattle.striped_memory.specs.Striped.{zeros, resized, first_unit}
-use Rattle.striped_memory.specs.Stripes.{store_at, rows_on, byte_at, byte_of, bytes_in, row_count, HasRows, SameElsewhere, SameRows, Grew, KeptFront, Shrank, Zeroed, Resized}
+use Rattle.striped_memory.specs.Striped.{zeros, resized}
+use Rattle.striped_memory.specs.Stripes.{store_at, rows_on, byte_of, bytes_in, row_count, HasRows, SameRows, Grew, KeptFront, Shrank, Zeroed, Resized}
 use Rattle.striped_memory.proofs.Places.{some_stripes, wide, row_inside, row_behind, rows_are_exact}
 use Rattle.striped_memory.proofs.Walks.{past_rows}
 use Rattle.striped_memory.proofs.Writes.{Written, written}

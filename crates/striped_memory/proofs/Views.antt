@@ -1,22 +1,20 @@
 -- The bytes of all regions, as the stores and the sizes have them.
-use Rattle.std.proofs.Common.{◌≡◌, ◌≢◌, ℕ, ◌+◌, ◌-◌, ◌*◌, ◌/◌, ◌%◌, ◌<◌, ◌≤◌, ◌^◌, Bool, true, false, cond, List, [], ◌∷◌, length, map, get_or, slice_set, slice_range, refl, sym, ap, subst, ◌∙◌, inl, inr, arith}
-use Rattle.std.specs.Prelude.{◌==◌, ◌⊎◌, Option, Some, None, unwrap_or, IsSome, IsTrue, nat_eq}
+use Rattle.std.proofs.Common.{◌≡◌, ◌≢◌, ℕ, ◌+◌, ◌/◌, ◌%◌, ◌≤◌, ◌^◌, Bool, true, false, cond, List, [], ◌∷◌, length, map, get_or, refl, sym, ap, subst, ◌∙◌, inl, inr, arith}
+use Rattle.std.specs.Prelude.{Option, Some, None, unwrap_or, IsSome}
 use Rattle.std.specs.Option.{option_map}
 use Rattle.std.specs.Map.{lookup}
 use Rattle.std.specs.BTreeMap.{is_at}
-use Rattle.std.specs.Ordering.{nat_cmp, eq_by_cmp, is_eq}
+use Rattle.std.specs.Ordering.{nat_cmp, eq_by_cmp}
 use Rattle.std.specs.Cmp.{nat_cmp_total, unsigned_tied}
-use Rattle.std.specs.FinMap.{FinMap, empty, get, insert, remove, get-empty, get-insert, get-remove, same_map, nat_cmp-IsAntisymmetric}
+use Rattle.std.specs.FinMap.{FinMap, get, insert, remove, get-empty, get-insert, get-remove, same_map, nat_cmp-IsAntisymmetric}
 use Rattle.std.proofs.lemmas.Bool.{cases_eq, false≢true}
 use Rattle.std.proofs.lemmas.Bool.Decides.{nat_tests}
 use Rattle.fam_base.specs.declared.naming.RegionId.{RegionId}
 use Rattle.fam_model.specs.declared.service.Service.{Service}
 use Rattle.fam_model.specs.Pieces.{stripe_count}
-use Rattle.fam_layout.specs.Layouts.{is_lawful}
 use Rattle.stripe_store.specs.Kept.{Kept}
 use Rattle.stripe_store.specs.Rows.{bytes_of}
-use Rattle.striped_memory.specs.Striped.{Striped}
-use Rattle.striped_memory.specs.Stripes.{rows_on, byte_of, bytes_in, row_count, HasRows, SameElsewhere, SameRows, Sizes, by_number, found, size_in, regions_of, IsStriped}
+use Rattle.striped_memory.specs.Stripes.{rows_on, byte_of, bytes_in, HasRows, SameElsewhere, Sizes, by_number, found, size_in, regions_of, IsStriped}
 use Rattle.striped_memory.proofs.Sizes.{bytes_same, has_same_shape}
 
 abbrev Regions : Type 0
@@ -101,22 +99,22 @@ updated old new region size updates =
 pub unchanged : (sizes : Sizes) (region size : ℕ) → found sizes region ≡ Some size → Changed sizes sizes region (Some size)
 unchanged sizes region size is = record { here = is; others = λ q apart. refl }
 
-inserted_here : (regions : Regions) (region : ℕ) (bytes : List ℕ) → get (insert regions region bytes) region ≡ Some bytes
+pub inserted_here : (regions : Regions) (region : ℕ) (bytes : List ℕ) → get (insert regions region bytes) region ≡ Some bytes
 inserted_here regions region bytes =
     get-insert nat_cmp_total regions region bytes region
     ∙ where_same (eq_by_cmp nat_cmp region region) (Some bytes) (get regions region) (tied_same region region refl)
 
-inserted_beside : (regions : Regions) (region q : ℕ) (bytes : List ℕ) → q ≢ region → get (insert regions region bytes) q ≡ get regions q
+pub inserted_beside : (regions : Regions) (region q : ℕ) (bytes : List ℕ) → q ≢ region → get (insert regions region bytes) q ≡ get regions q
 inserted_beside regions region q bytes apart =
     get-insert nat_cmp_total regions region bytes q
     ∙ where_other (eq_by_cmp nat_cmp q region) (Some bytes) (get regions q) (tied_other q region apart)
 
-removed_here : (regions : Regions) (region : ℕ) → get (remove regions region) region ≡ None
+pub removed_here : (regions : Regions) (region : ℕ) → get (remove regions region) region ≡ None
 removed_here regions region =
     get-remove nat_cmp_total regions region region
     ∙ where_same (eq_by_cmp nat_cmp region region) None (get regions region) (tied_same region region refl)
 
-removed_beside : (regions : Regions) (region q : ℕ) → q ≢ region → get (remove regions region) q ≡ get regions q
+pub removed_beside : (regions : Regions) (region q : ℕ) → q ≢ region → get (remove regions region) q ≡ get regions q
 removed_beside regions region q apart =
     get-remove nat_cmp_total regions region q
     ∙ where_other (eq_by_cmp nat_cmp q region) None (get regions q) (tied_other q region apart)
@@ -252,15 +250,3 @@ put_twice regions region first second =
           ∙ inserted_beside regions region q first apart
           ∙ sym (inserted_beside regions region q second apart)
     ])
-
-pub got_back : (regions : Regions) (region : ℕ) (bytes : List ℕ) → get (insert regions region bytes) region ≡ Some bytes
-got_back regions region bytes = inserted_here regions region bytes
-
-pub got_beside : (regions : Regions) (region q : ℕ) (bytes : List ℕ) → q ≢ region → get (insert regions region bytes) q ≡ get regions q
-got_beside regions region q bytes apart = inserted_beside regions region q bytes apart
-
-pub gone_here : (regions : Regions) (region : ℕ) → get (remove regions region) region ≡ None
-gone_here regions region = removed_here regions region
-
-pub gone_beside : (regions : Regions) (region q : ℕ) → q ≢ region → get (remove regions region) q ≡ get regions q
-gone_beside regions region q apart = removed_beside regions region q apart

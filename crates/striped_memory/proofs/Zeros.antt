@@ -1,7 +1,7 @@
 -- Zeros over a range, a unit at a time.
-use Rattle.std.proofs.Common.{◌≡◌, ℕ, ◌+◌, ◌-◌, ◌%◌, ◌<◌, ◌≤◌, ◌^◌, List, [], ◌++◌, length, take, drop, refl, sym, ap, subst, ◌∙◌, arith, append_assoc}
-use Rattle.std.specs.Prelude.{Some, unwrap_or, IsSome, is_some, min}
-use Rattle.std.specs.FinMap.{get, insert}
+use Rattle.std.proofs.Common.{◌≡◌, ℕ, ◌+◌, ◌-◌, ◌%◌, ◌<◌, ◌≤◌, ◌^◌, List, [], ◌++◌, length, take, drop, sym, ap, subst, ◌∙◌, arith, append_assoc}
+use Rattle.std.specs.Prelude.{unwrap_or, is_some, min}
+use Rattle.std.specs.FinMap.{insert}
 use Rattle.std.proofs.Math.Seq.{drop-append-add}
 use Rattle.std.proofs.lemmas.List.{length-append, length-take-le, length-replicate, take_at, drop-drop, replicate-append-replicate}
 use Rattle.stripe_store.proofs.Laws.{length-overwritten}
@@ -9,8 +9,8 @@ use Rattle.stripe_store.specs.Kept.{Kept}
 use Rattle.fam_model.specs.declared.service.Service.{Service}
 use Rattle.fam_model.specs.PieceStep.{overwritten}
 use Rattle.striped_memory.specs.Striped.{Striped, IsThere, bytes_of, with_bytes, zeros, LiesInUnit}
-use Rattle.striped_memory.specs.Stripes.{Sizes, size_in, regions_of, IsStriped}
-use Rattle.striped_memory.proofs.Views.{put_twice, got_back}
+use Rattle.striped_memory.specs.Stripes.{Sizes, IsStriped}
+use Rattle.striped_memory.proofs.Views.{put_twice, inserted_here}
 use Rattle.striped_memory.proofs.Accesses.{seen, length_seen, nothing_written}
 
 -- two writes, the second one behind the first
@@ -52,7 +52,7 @@ small_seen service stores sizes region memory striped e =
     (λ there. let count = length_seen service stores sizes region there in let small = striped.small region in omega (arith, count, small))
 
 bytes_now : (memory : Striped) (region : ℕ) (bytes : List ℕ) → bytes_of (with_bytes memory region bytes) region ≡ bytes
-bytes_now memory region bytes = ap (λ o. unwrap_or o []) (got_back memory.regions region bytes)
+bytes_now memory region bytes = ap (λ o. unwrap_or o []) (inserted_here memory.regions region bytes)
 
 pub zeros_lie : (memory now : Striped) (region address n left part unit : ℕ) →
     now ≡ with_bytes memory region (overwritten address (zeros (n - left)) (bytes_of memory region)) → address + n ≤ length (bytes_of memory region) →
@@ -67,7 +67,7 @@ zeros_lie memory now region address n left part unit e inside least is wide cut 
     let fits : at % unit + part ≤ unit = omega arith in
     subst (λ (m : Striped). LiesInUnit m region at part) (sym e)
     (record {
-      there = ap (λ o. is_some o) (got_back memory.regions region done);
+      there = ap (λ o. is_some o) (inserted_here memory.regions region done);
       inside = omega (arith, count, long);
       in_unit = subst (λ (w : ℕ). at % w + part ≤ w) is fits;
     })

@@ -1,4 +1,4 @@
-use Rattle.std.proofs.Common.{◌≡◌, ℕ, ◌+◌, ◌-◌, ◌*◌, ◌/◌, ◌%◌, ◌∙◌, ap, refl}
+use Rattle.std.proofs.Common.{◌≡◌, ℕ, ◌+◌, ◌-◌, ◌*◌, ◌/◌, ◌%◌, refl}
 use Rattle.std.specs.Int.{div_ceil}
 use Rattle.fam_model.specs.declared.service.Service.{Service}
 use Rattle.striped_memory.specs.Striped.{first_unit}

@@ -1,10 +1,10 @@
-use Rattle.std.proofs.Common.{◌≡◌, List, length, subst, sym, refl, ap, ◌∙◌}
+use Rattle.std.proofs.Common.{List, length, subst, sym, ap, ◌∙◌}
 use Rattle.std.specs.Prelude.{Some, None}
 use Rattle.std.specs.Vec.{with_items}
 use Rattle.std.proofs.lemmas.List.{with_items_is}
 use Rattle.stripe_store.specs.Kept.{Kept}
 use Rattle.striped_memory.specs.Striped.{Striped, with_bytes, zeros}
-use Rattle.striped_memory.specs.Stripes.{Dropped, Grew, KeptFront, Sizes, found, IsStriped}
+use Rattle.striped_memory.specs.Stripes.{Dropped, Grew, KeptFront, Sizes, IsStriped}
 use Rattle.striped_memory.proofs.Views.{Changed, updated}
 use Rattle.striped_memory.proofs.Changes.{missing, fresh_found, dropped_striped, undone_seen, created_striped, created_seen}
 use Rattle.striped_memory.proofs.Accesses.{seen}

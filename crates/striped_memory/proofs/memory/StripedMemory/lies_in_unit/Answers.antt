@@ -9,11 +9,12 @@ returns-in-Some c =
     let s = c.self.inside in
     let test = c.lies_in.ensures in
     let exactly = lies_exactly s.layout s.stores.items s.sizes.entries c.args.region.0 c.args.address c.args.n c.in-Some.size.now c.from-unit.result c.args.self.now
-        c.self.view_is c.in-Some.ensures.value (c.from-unit.ensures ∙ ap (λ (service : Service). service.unit) c.service.ensures.is) in
+    c.self.view_is c.in-Some.ensures.value (c.from-unit.ensures ∙ ap (λ (service : Service). service.unit) c.service.ensures.is) in
     (λ holds. exactly.0 (test.0 holds), λ lies. test.1 (exactly.1 lies))
 
 pub returns-in-None : goal.returns-in-None
 returns-in-None c =
-    let s = c.self.inside in
-    (λ holds. absurd (false≢true holds),
-     λ lies. absurd (lies_nowhere s.layout s.stores.items s.sizes.entries c.args.region.0 c.args.address c.args.n c.args.self.now c.self.view_is c.in-None.ensures.value lies))
+    let s = c.self.inside in (
+      λ holds. absurd (false≢true holds),
+      λ lies. absurd (lies_nowhere s.layout s.stores.items s.sizes.entries c.args.region.0 c.args.address c.args.n c.args.self.now c.self.view_is c.in-None.ensures.value lies),
+    )

@@ -1,7 +1,6 @@
-use Rattle.std.proofs.Common.{◌≡◌, ◌∙◌, List, length, subst, sym, ap}
+use Rattle.std.proofs.Common.{◌∙◌, List, length, subst, sym, ap}
 use Rattle.std.proofs.lemmas.List.{with_items_is}
 use Rattle.stripe_store.specs.Kept.{Kept}
-use Rattle.striped_memory.specs.Striped.{Striped}
 use Rattle.striped_memory.specs.Stripes.{HasRows, SameRows, Resized, IsStriped}
 use Rattle.striped_memory.proofs.Changes.{not_there, size_found, rows_found, written_through, same_striped, same_seen, resized_striped, resized_seen, on_any_err}
 use Rattle.striped_memory.proofs.Accesses.{seen}

@@ -1,4 +1,4 @@
-use Rattle.std.proofs.Common.{◌≡◌, ℕ, ◌≤◌, ◌^◌, ◌∙◌, ap, subst, sym, length}
+use Rattle.std.proofs.Common.{ℕ, ◌≤◌, ◌^◌, ◌∙◌, ap, subst, sym, length}
 use Rattle.std.specs.Prelude.{Option, IfSome}
 use Rattle.std.specs.Option.{option_map}
 use Rattle.std.specs.FinMap.{get}
@@ -15,9 +15,9 @@ returns c =
     let q = c.args.region.0 in
     let is = c.copied.ensures ∙ c.get.ensures.value in
     let value = is
-        ∙ length_by (bytes_in s.layout s.stores.items q) (length_of_bytes s.layout s.stores.items q) (found s.sizes.entries q)
-        ∙ ap (option_map length) (sym (get-regions_of s.layout s.stores.items s.sizes.entries q))
-        ∙ ap (λ (m : Striped). option_map length (get m.regions q)) c.self.view_is in
+    ∙ length_by (bytes_in s.layout s.stores.items q) (length_of_bytes s.layout s.stores.items q) (found s.sizes.entries q)
+    ∙ ap (option_map length) (sym (get-regions_of s.layout s.stores.items s.sizes.entries q))
+    ∙ ap (λ (m : Striped). option_map length (get m.regions q)) c.self.view_is in
     record {
       value = value;
       there = size_there c.copied.result (get c.args.self.now.regions q) value;

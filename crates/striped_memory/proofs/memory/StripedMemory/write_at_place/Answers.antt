@@ -1,4 +1,4 @@
-use Rattle.std.proofs.Common.{◌∙◌, length}
+use Rattle.std.proofs.Common.{length}
 use Rattle.striped_memory.proofs.Accesses.{some_by, none_by, nothing_written, place_reaches, place_kept, place_written}
 use Rattle.striped_memory.specs.Striped.{address_at}
 use Rattle.striped_memory.proofs.memory.StripedMemory.write_at_place.Goals as goal

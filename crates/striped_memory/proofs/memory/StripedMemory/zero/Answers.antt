@@ -1,5 +1,4 @@
-use Rattle.std.proofs.Common.{◌∙◌, ap, ◌+◌, ◌-◌, ◌%◌, arith}
-use Rattle.std.specs.Prelude.{min}
+use Rattle.std.proofs.Common.{◌∙◌, ap, arith}
 use Rattle.fam_model.specs.declared.service.Service.{Service}
 use Rattle.striped_memory.specs.Striped.{Striped}
 use Rattle.striped_memory.proofs.Places.{wide}
