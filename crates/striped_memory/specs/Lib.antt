@@ -1,0 +1,3 @@
+pub mod Striped
+pub mod Stripes
+pub mod Laws
