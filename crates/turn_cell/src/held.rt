@@ -1,8 +1,8 @@
 //! What a pass does while it has the turn.
 ghost use Rattle.std.specs.Prelude.{◌≡◌, ℕ, ◌+◌, ◌-◌, ◌*◌, ◌^◌, ◌<◌, ◌≤◌, ◌⊎◌, ◌↔◌, [], ◌∷◌, ◌++◌, true, false, Some, length, max, vec_capacity, IfOk, IfErr, OnOk};
-ghost use Rattle.turn_cell.specs.Turn.{IsOwn, freed};
-ghost use Rattle.turn_cell.specs.Refusals.{IsWant};
-ghost use Rattle.turn_cell.specs.Words.{IsHeld, IsPassOf, IsSamePass, IsReserved, SameBut, IsMade, CanCut, IsCut, CutsView, entry, with_entry};
+ghost use Rattle.turn_cell.specs.Turn.{IsOwn, KnowsOwn, freed};
+ghost use Rattle.turn_cell.specs.Refusals.{IsWant, IsFull, IsRefusal};
+ghost use Rattle.turn_cell.specs.Words.{IsHeld, IsPassOf, IsSamePass, IsSameTurn, IsReserved, HasRoom, HasRoomToCut, SameBut, IsMade, CanCut, IsCut, CutsView, entry, with_entry, let_go, view_of, view_in, pass_of, cell_of, store_of, number_of, limit_of, used_of};
 
 use crate::cell::{HeldWith, Kept};
 use crate::object::Object;
@@ -13,30 +13,34 @@ use std::alloc::Global;
 const LAST: u64 = 1 << 62;
 
 impl<'a, 'c, O: Object> HeldWith<'a, 'c, O, Kept<O>> {
+    /// The object, after all calls of the history.
     pub fn object(&self) -> &O
-        ensures { result.now ≡ self.now.kept.store.object }
+        ensures { result.now ≡ (store_of self.now).object }
     {
         &self.kept.store.object
     }
 
+    /// The stamp of the last entry, and 0 where there is none.
     pub fn stamp(&self) -> Stamp
-        ensures { result ≡ self.now.kept.store.stamp }
+        ensures { result ≡ (store_of self.now).stamp }
     {
         self.kept.store.stamp
     }
 
-    /// Makes room for a call and its entry, and gives the reply that `finish` will fill in.
+    /// Makes room for a call and its entry, and gives the reply that `finish` will fill in. It may be called again, for this call or another: the last one counts.
+    /// `HistoryFull` comes exactly where there would be more entries than the limit, the reserved ones counted, or a stamp of 2^62 or more. `Memory` for a call that needs no entry comes only from the object.
     pub fn reserve(&mut self, call: &O::Call, stamp: Stamp) -> Result<O::Reply, FamError>
-        requires held { IsHeld O.meaning O.gives O.held_back self.old }
-        requires fits { O.fits (O.meaning self.old.kept.store.object) call.now }
-        requires owner { IsOwn self.old.pass.now.seat.me.0.owners (O.owner call.now) }
+        requires held { IsHeld O.meaning O.gives O.held_back O.owner self.old }
+        requires asks { O.asks (O.meaning (store_of self.old).object) call.now }
+        requires owner { IsOwn (view_in self.old).owners (O.owner call.now) }
         ensures same_reference { self.new.pass.ghost_name ≡ self.old.pass.ghost_name }
-        ensures same { (self.new.pass.now ≡ self.old.pass.now) × (self.new.cell.now ≡ self.old.cell.now) × SameBut O.meaning self.old.kept self.new.kept }
-        ensures held { IsHeld O.meaning O.gives O.held_back self.new }
-        ensures ok { IfOk result (λ copy. IsReserved O.meaning O.held_back O.needs O.fits O.ready self.new.cell.now.limit self.new.kept call.now copy) }
-        ensures full { let used = length self.old.kept.store.entries.items + O.held_back (O.meaning self.old.kept.store.object) in let need = O.needs (O.meaning self.old.kept.store.object) call.now in
-            ((u : ℕ) (n : ℕ) → result ≡ Err (FamError.HistoryFull u n) → (u ≡ used) × (n ≡ need) × ((self.old.cell.now.limit < used + need) ⊎ (2 ^ 62 ≤ max self.old.kept.store.stamp.0 stamp.0)))
-            × ((self.old.cell.now.limit < used + need) ⊎ (2 ^ 62 ≤ max self.old.kept.store.stamp.0 stamp.0) → result ≡ Err (FamError.HistoryFull used need)) }
+        ensures same { IsSameTurn O.meaning self.old self.new }
+        ensures held { IsHeld O.meaning O.gives O.held_back O.owner self.new }
+        ensures ok { IfOk result (λ copy. HasRoom O.meaning O.held_back O.needs O.fits O.ready self.new call.now copy) }
+        ensures early { OnOk result (max (store_of self.old).stamp.0 stamp.0 < 2 ^ 62) }
+        ensures full { let used = used_of O.meaning O.held_back self.old in let need = O.needs (O.meaning (store_of self.old).object) call.now in
+            IsFull (limit_of (cell_of self.old)) used need (max (store_of self.old).stamp.0 stamp.0) ↔ (result ≡ Err (FamError.HistoryFull used need)) }
+        ensures refused { IfErr result (IsRefusal (O.refuses (O.meaning (store_of self.old).object) call.now) (used_of O.meaning O.held_back self.old) (O.needs (O.meaning (store_of self.old).object) call.now)) }
     {
         let used = self.kept.used();
         let need = self.kept.store.object.need(call);
@@ -46,15 +50,16 @@ impl<'a, 'c, O: Object> HeldWith<'a, 'c, O, Kept<O>> {
         self.kept.make_room(call, need)
     }
 
-    /// Makes the call, adds its entry to the history, and gives the turn back.
+    /// Makes the call, adds its entry to the history, and gives the turn back. It needs the reply of the last `reserve`, which was for this call, and takes no memory.
     pub fn finish(self, call: O::Call, stamp: Stamp, copy: O::Reply) -> O::Reply
-        requires held { IsHeld O.meaning O.gives O.held_back self }
-        requires reserved { IsReserved O.meaning O.held_back O.needs O.fits O.ready self.cell.now.limit self.kept call copy }
-        requires owner { IsOwn self.pass.now.seat.me.0.owners (O.owner call) }
-        requires stamp { self.kept.store.stamp.0 < stamp.0 }
+        requires held { IsHeld O.meaning O.gives O.held_back O.owner self }
+        requires reserved { HasRoom O.meaning O.held_back O.needs O.fits O.ready self call copy }
+        requires owner { IsOwn (view_in self).owners (O.owner call) }
+        requires stamp { (store_of self).stamp.0 < stamp.0 }
         ensures pass { IsPassOf self.entry.cell.now self.exit.0.now × IsSamePass self.entry.pass.now self.exit.0.now }
-        ensures added { self.exit.0.now.seat.me.0 ≡ with_entry self.entry.pass.now.seat.me.0 (entry stamp self.entry.pass.now.number call result) }
-        ensures answer { (m : O.Meaning) × O.gives (O.meaning self.entry.kept.store.object) call result m }
+        ensures added { view_of self.exit.0.now ≡ with_entry (view_in self.entry) (entry stamp (number_of (pass_of self.entry)) call result) }
+        ensures own { KnowsOwn O.owner (view_of self.exit.0.now) }
+        ensures answer { (m : O.Meaning) × O.gives (O.meaning (store_of self.entry).object) call result m }
     {
         let HeldWith { pass, cell, kept } = self;
         let (store, reply) = kept.make(pass.number, call, stamp, copy);
@@ -62,25 +67,26 @@ impl<'a, 'c, O: Object> HeldWith<'a, 'c, O, Kept<O>> {
         reply
     }
 
-    /// Makes room for a cut.
+    /// Makes room for a cut. Where memory is wanting nothing has changed.
     pub fn reserve_cut(&mut self) -> Result<(), NoMemory>
-        requires held { IsHeld O.meaning O.gives O.held_back self.old }
+        requires held { IsHeld O.meaning O.gives O.held_back O.owner self.old }
         ensures same_reference { self.new.pass.ghost_name ≡ self.old.pass.ghost_name }
-        ensures same { (self.new.pass.now ≡ self.old.pass.now) × (self.new.cell.now ≡ self.old.cell.now) × (self.new.kept.store ≡ self.old.kept.store) }
-        ensures held { IsHeld O.meaning O.gives O.held_back self.new }
-        ensures ok { OnOk result (CanCut O.meaning O.held_back self.new.kept) }
+        ensures same { (pass_of self.new ≡ pass_of self.old) × (cell_of self.new ≡ cell_of self.old) × (store_of self.new ≡ store_of self.old) }
+        ensures held { IsHeld O.meaning O.gives O.held_back O.owner self.new }
+        ensures ok { OnOk result (HasRoomToCut O.meaning O.held_back self.new) }
     {
         self.kept.make_blank()
     }
 
-    /// Hands out the entries since the last cut, and gives the turn back.
+    /// Hands out the entries since the last cut, and gives the turn back. The history, its stamp and the object stay. It takes no memory, and needs the first pass and `reserve_cut`.
     pub fn cut(self) -> Vec<Entry<O::Call, O::Reply>, Global>
-        requires held { IsHeld O.meaning O.gives O.held_back self }
-        requires ready { CanCut O.meaning O.held_back self.kept }
-        requires first { self.pass.now.seat.me.0.leads ≡ true }
+        requires held { IsHeld O.meaning O.gives O.held_back O.owner self }
+        requires ready { HasRoomToCut O.meaning O.held_back self }
+        requires first { (view_in self).leads ≡ true }
         ensures pass { IsPassOf self.entry.cell.now self.exit.0.now × IsSamePass self.entry.pass.now self.exit.0.now }
-        ensures entries { result.items ≡ self.entry.kept.store.entries.items }
-        ensures cut { CutsView O.meaning self.entry.kept.store.object self.entry.pass.now.seat.me.0 self.exit.0.now.seat.me.0 }
+        ensures entries { result.items ≡ (store_of self.entry).entries.items }
+        ensures cut { CutsView O.meaning (store_of self.entry).object (view_in self.entry) (view_of self.exit.0.now) }
+        ensures own { KnowsOwn O.owner (view_of self.exit.0.now) }
     {
         let HeldWith { pass, cell, kept } = self;
         let (store, entries) = kept.cut();
@@ -90,9 +96,10 @@ impl<'a, 'c, O: Object> HeldWith<'a, 'c, O, Kept<O>> {
 
     /// Gives the turn back, with nothing added.
     pub fn give_back(self)
-        requires { IsHeld O.meaning O.gives O.held_back self }
+        requires { IsHeld O.meaning O.gives O.held_back O.owner self }
         ensures pass { IsPassOf self.entry.cell.now self.exit.0.now × IsSamePass self.entry.pass.now self.exit.0.now }
-        ensures same { self.exit.0.now.seat.me.0 ≡ record self.entry.pass.now.seat.me.0 { holds = false } }
+        ensures same { view_of self.exit.0.now ≡ let_go (view_in self.entry) }
+        ensures own { KnowsOwn O.owner (view_of self.exit.0.now) }
     {
         let HeldWith { pass, cell, kept } = self;
         cell.give(pass, kept.into_store());
@@ -133,7 +140,7 @@ impl<O: Object> Kept<O> {
     )
         requires ready { CanCut O.meaning O.held_back self }
         requires small { self.store.cut + length self.store.entries.items < 2 ^ 64 }
-        ensures { IsCut O.held_back O.meaning self.store result.0 × (result.1.items ≡ self.store.entries.items) }
+        ensures { IsCut O.meaning O.held_back self.store result.0 × (result.1.items ≡ self.store.entries.items) }
     {
         let Kept {
             store,
@@ -165,13 +172,13 @@ impl<O: Object> Kept<O> {
     }
 
     fn make_room(&mut self, call: &O::Call, need: u64) -> Result<O::Reply, FamError>
-        requires fits { O.fits (O.meaning self.old.store.object) call.now }
+        requires asks { O.asks (O.meaning self.old.store.object) call.now }
         requires need { need ≡ O.needs (O.meaning self.old.store.object) call.now }
         requires few { need + O.held_back (O.meaning self.old.store.object) < 2 ^ 63 }
         requires room { length self.old.store.entries.items + O.held_back (O.meaning self.old.store.object) ≤ vec_capacity self.old.store.entries }
         ensures same { SameBut O.meaning self.old self.new }
-        ensures err { IfErr result IsWant }
-        ensures ok { IfOk result (λ copy. (out : O.Reply) × (self.new.out ≡ Some out) × O.ready self.new.store.object call.now out × O.ready self.new.store.object call.now copy
+        ensures err { IfErr result (λ e. IsWant e × (((e ≡ FamError.Memory) × (0 < need)) ⊎ O.refuses (O.meaning self.old.store.object) call.now e)) }
+        ensures ok { IfOk result (λ copy. (out : O.Reply) × (self.new.out ≡ Some out) × O.fits (O.meaning self.new.store.object) call.now × O.ready self.new.store.object call.now out × O.ready self.new.store.object call.now copy
             × (length self.new.store.entries.items + O.held_back (O.meaning self.new.store.object) + need ≤ vec_capacity self.new.store.entries)) }
     {
         if need > 0 {

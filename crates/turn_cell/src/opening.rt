@@ -1,7 +1,7 @@
 //! A new cell.
 ghost use Rattle.std.specs.Prelude.{◌≡◌, ◌≤◌, [], ◌∷◌, Some, MatchResult, IfErr, length};
 ghost use Rattle.turn_cell.specs.Turn.{starting};
-ghost use Rattle.turn_cell.specs.Words.{IsPassOf, IsNew};
+ghost use Rattle.turn_cell.specs.Words.{IsPassOf, IsNew, limit_of, origin_of, view_of};
 
 use crate::cell::{Cell, Pass};
 use crate::object::Object;
@@ -61,11 +61,11 @@ impl<O: Object> Cell<O> {
     pub fn new(alloc: Global, object: O, limit: u64) -> Result<(Cell<O>, Pass<O>), (O, NoMemory)>
         requires reserved { O.held_back (O.meaning object) ≤ limit }
         requires limit { limit ≤ 262144 }
-        ensures { MatchResult result (λ r. IsPassOf r.0 r.1 × (r.0.limit ≡ limit) × (r.1.seat.me.0 ≡ starting object limit)) (λ r. r.0 ≡ object) }
+        ensures { MatchResult result (λ r. IsPassOf r.0 r.1 × (limit_of r.0 ≡ limit) × (origin_of r.0 ≡ object) × (view_of r.1 ≡ starting object limit)) (λ r. r.0 ≡ object) }
     {
         let about = Opening {
             limit,
-            base: Snapshot::of(&object),
+            origin: Snapshot::of(&object),
         };
         let slots = slots_of::<O>(alloc, Store::new(alloc, object)?)?;
         match Table::new(alloc, &[0, 1], slots, &about) {

@@ -24,11 +24,14 @@ pub struct Store<O: Drop, C: Drop, R: Drop> {
     pub cut: u64,
 }
 
-/// A number, and the entries that name it. No value of it is made.
+/// A pass that was joined to another: its number, the entries that name it, and what it had seen. No value of it is made.
 #[derive(Drop)]
 pub struct Part<C: Drop, R: Drop> {
     pub number: u64,
     pub entries: LinkedList<Entry<C, R>, Global>,
+    pub seen: LinkedList<Entry<C, R>, Global>,
+    pub looks: u64,
+    pub missed: u64,
 }
 
 /// What a seat knows. No value of it is made.
@@ -38,7 +41,7 @@ pub struct View<O, C: Drop, R: Drop> {
     /// The number that its entries name now, and these.
     pub number: u64,
     pub mine: LinkedList<Entry<C, R>, Global>,
-    /// The numbers of the passes that were joined to it, each with its entries.
+    /// The passes that were joined to it.
     pub past: LinkedList<Part<C, R>, Global>,
     /// The numbers and the owners that are its own.
     pub numbers: LinkedList<u64, Global>,
@@ -57,8 +60,9 @@ pub struct View<O, C: Drop, R: Drop> {
     /// The length of the history at the last cut, and the object then, where it is the first or holds.
     pub cut: u64,
     pub base: Option<O>,
-    /// How many entries there may be between two cuts.
+    /// How many entries there may be between two cuts, and the object that the cell was made with.
     pub limit: u64,
+    pub origin: Option<O>,
 }
 
 pub type Slot<O> = Option<Store<O, <O as Object>::Call, <O as Object>::Reply>>;
@@ -73,7 +77,7 @@ pub struct Turn<O> {
 #[derive(Drop)]
 pub struct Opening<O: Drop> {
     pub limit: u64,
-    pub base: Snapshot<O>,
+    pub origin: Snapshot<O>,
 }
 
 impl<O: Object> TableRule<
@@ -83,7 +87,7 @@ impl<O: Object> TableRule<
 > for Turn<O> {
     ghost use Rattle.turn_cell.specs.Turn.{Turned, starting};
 
-    ghost holds = { λ key. Turned O.meaning O.gives O.held_back O.owner key.limit };
+    ghost holds = { λ key. Turned O.meaning O.gives O.held_back O.owner key.limit key.origin.value };
 
-    ghost first = { λ key. starting key.base.value key.limit };
+    ghost first = { λ key. starting key.origin.value key.limit };
 }
