@@ -5,7 +5,9 @@ ghost use Rattle.counter.specs.Counting.{owner};
 
 use crate::{Call, Counter};
 use fam_base::{FamError, Stamp};
+use std::sync::Wait;
 use std::test::Fail;
+use std::thread::join;
 use turn_cell::{Cell, Entry, Pass, StillOut};
 
 // Makes the call, if the turn is free and the stamp above the cell's.
@@ -82,5 +84,142 @@ fn two_entries_fill_a_cell_of_limit_two(rt: HostRuntime) -> Result<(), Fail> {
         }
         Err(_) => panic!(rt; "a pass is out"),
     }
+    Ok(())
+}
+
+// Whether the other pass finds the turn held while the one has it.
+fn is_busy(cell: &Cell<Counter>, one: &mut Pass<Counter>, other: &mut Pass<Counter>) -> bool
+    requires { IsPassOf cell.now one.old × IsPassOf cell.now other.old }
+    ensures one { IsPassOf cell.now one.new × IsSamePass one.old one.new }
+    ensures other { IsPassOf cell.now other.new × IsSamePass other.old other.new }
+{
+    let Some(held) = one.try_take(cell) else {
+        return false;
+    };
+    let busy = match other.try_take(cell) {
+        None => true,
+        Some(second) => {
+            second.give_back();
+            false
+        }
+    };
+    held.give_back();
+    busy
+}
+
+#[test]
+fn a_turn_is_held_and_a_pass_is_out(rt: HostRuntime) -> Result<(), Fail> {
+    let object = Counter {
+        value: 5,
+        booked: 0,
+    };
+    let Ok((cell, mut first)) = Cell::new(rt.alloc(), object, 2) else {
+        panic!(rt; "no memory")
+    };
+    let mut second = cell.split(&mut first, 7);
+    assert!(rt; is_busy(&cell, &mut first, &mut second));
+    let Ok(passes) = Vec::from_array(rt.alloc(), [first]) else {
+        panic!(rt; "no memory")
+    };
+    let Err((cell, mut passes, out)) = cell.close(passes) else {
+        panic!(rt; "closed")
+    };
+    assert_eq!(rt; out, StillOut { made: 2, given: 1 });
+    let Ok(()) = passes.push(second) else {
+        panic!(rt; "no memory")
+    };
+    let Ok((counter, entries)) = cell.close(passes) else {
+        panic!(rt; "a pass is out")
+    };
+    assert_eq!(rt; counter.value, 5);
+    assert!(rt; entries.is_empty());
+    Ok(())
+}
+
+// Adds 1 at the next stamp, once the turn is free.
+fn add_one<R: Wait>(rt: &R, cell: &Cell<Counter>, pass: &mut Pass<Counter>) -> bool
+    requires { IsPassOf cell.now pass.old }
+    ensures { IsPassOf cell.now pass.new × IsSamePass pass.old pass.new }
+{
+    let mut held = pass.take(rt, cell);
+    let stamp = held.stamp();
+    if stamp.0 >= 1000 {
+        held.give_back();
+        return false;
+    }
+    let stamp = Stamp(stamp.0 + 1);
+    match held.reserve(&Call::Add(1), stamp) {
+        Ok(copy) => {
+            held.finish(Call::Add(1), stamp, copy);
+            true
+        }
+        Err(_) => {
+            held.give_back();
+            false
+        }
+    }
+}
+
+fn add_hundred<R: Wait>(
+    rt: &R,
+    cell: &Cell<Counter>,
+    mut pass: Pass<Counter>,
+) -> (Pass<Counter>, u64)
+    requires { IsPassOf cell.now pass }
+    ensures { IsPassOf cell.now result.0 × IsSamePass pass result.0 }
+{
+    let mut added = 0;
+    for _ in 0..100u64 {
+        if add_one(rt, cell, &mut pass) {
+            added += 1;
+        }
+    }
+    (pass, added)
+}
+
+// Whether all stamps and replies stand in order without a gap.
+fn is_in_order(entries: &[Entry<Call, u64>]) -> bool {
+    entries
+        .iter()
+        .enumerate()
+        .all(|(at, entry)| entry.reply == at as u64 && entry.stamp.0.wrapping_sub(1) == at as u64)
+}
+
+fn entries_of(entries: &[Entry<Call, u64>], number: u64) -> usize {
+    entries.iter().filter(|entry| entry.pass == number).count()
+}
+
+#[test]
+fn two_threads_take_turns(rt: HostRuntime) -> Result<(), Fail> {
+    let object = Counter {
+        value: 0,
+        booked: 0,
+    };
+    let Ok((cell, mut first)) = Cell::new(rt.alloc(), object, 1000) else {
+        panic!(rt; "no memory")
+    };
+    let second = cell.split(&mut first, 7);
+    let (first, second) = join(
+        &rt,
+        || -> (Pass<Counter>, u64)
+            requires { IsPassOf cell first }
+            ensures { IsPassOf cell result.0 × IsSamePass first result.0 }
+        { add_hundred(&rt, &cell, first) },
+        || -> (Pass<Counter>, u64)
+            requires { IsPassOf cell second }
+            ensures { IsPassOf cell result.0 × IsSamePass second result.0 }
+        { add_hundred(&rt, &cell, second) },
+    );
+    assert_eq!(rt; (first.1, second.1), (100, 100));
+    let Ok(passes) = Vec::from_array(rt.alloc(), [first.0, second.0]) else {
+        panic!(rt; "no memory")
+    };
+    let Ok((counter, entries)) = cell.close(passes) else {
+        panic!(rt; "a pass is out")
+    };
+    assert_eq!(rt; counter.value, 200);
+    assert!(rt; is_in_order(entries.as_slice()));
+    assert_eq!(rt; entries_of(entries.as_slice(), 0), 100);
+    assert_eq!(rt; entries_of(entries.as_slice(), 1), 100);
     Ok(())
 }

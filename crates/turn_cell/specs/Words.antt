@@ -2,6 +2,7 @@
 use Rattle.std.specs.Prelude.{◌≡◌, ℕ, ◌+◌, ◌*◌, ◌<◌, ◌≤◌, true, false, List, [], ◌∷◌, ◌++◌, length, Option, Some, None, ◌⊎◌, vec_capacity}
 use Rattle.std.specs.Prelude.{Vec}
 use Rattle.std.specs.Global.{Global}
+use Rattle.std.specs.Borrow.{GName}
 use Rattle.fam_base.specs.declared.naming.Stamp.{Stamp}
 use Rattle.turn_cell.specs.declared.view.Entry.{Entry}
 use Rattle.turn_cell.specs.declared.view.Store.{Store}
@@ -82,6 +83,10 @@ module _ {O C R : Type 0} where
   -- the pass that has the turn, its cell, and what came out of the slot
   abbrev pub pass_of : Held O C R → Pass O C R
   pass_of h = h.pass.now
+
+  -- which reference to the pass it has
+  abbrev pub reference_of : Held O C R → GName
+  reference_of h = h.pass.ghost_name
 
   abbrev pub cell_of : Held O C R → Cell O C R
   cell_of h = h.cell.now

@@ -2,7 +2,7 @@
 ghost use Rattle.std.specs.Prelude.{◌≡◌, ℕ, ◌+◌, ◌-◌, ◌*◌, ◌^◌, ◌<◌, ◌≤◌, ◌⊎◌, ◌↔◌, [], ◌∷◌, ◌++◌, true, false, Some, length, max, vec_capacity, IfOk, IfErr, OnOk};
 ghost use Rattle.turn_cell.specs.Turn.{IsOwn, KnowsOwn, freed};
 ghost use Rattle.turn_cell.specs.Refusals.{IsWant, IsFull, IsRefusal};
-ghost use Rattle.turn_cell.specs.Words.{IsHeld, IsPassOf, IsSamePass, IsSameTurn, IsReserved, HasRoom, HasRoomToCut, SameBut, IsMade, CanCut, IsCut, CutsView, entry, with_entry, let_go, view_of, view_in, pass_of, cell_of, store_of, number_of, limit_of, used_of};
+ghost use Rattle.turn_cell.specs.Words.{IsHeld, IsPassOf, IsSamePass, IsSameTurn, IsReserved, HasRoom, HasRoomToCut, SameBut, IsMade, CanCut, IsCut, CutsView, entry, with_entry, let_go, view_of, view_in, pass_of, cell_of, store_of, reference_of, number_of, limit_of, used_of};
 
 use crate::cell::{HeldWith, Kept};
 use crate::object::Object;
@@ -33,7 +33,7 @@ impl<'a, 'c, O: Object> HeldWith<'a, 'c, O, Kept<O>> {
         requires held { IsHeld O.meaning O.gives O.held_back O.owner self.old }
         requires asks { O.asks (O.meaning (store_of self.old).object) call.now }
         requires owner { IsOwn (view_in self.old).owners (O.owner call.now) }
-        ensures same_reference { self.new.pass.ghost_name ≡ self.old.pass.ghost_name }
+        ensures same_reference { reference_of self.new ≡ reference_of self.old }
         ensures same { IsSameTurn O.meaning self.old self.new }
         ensures held { IsHeld O.meaning O.gives O.held_back O.owner self.new }
         ensures ok { IfOk result (λ copy. HasRoom O.meaning O.held_back O.needs O.fits O.ready self.new call.now copy) }
@@ -56,7 +56,7 @@ impl<'a, 'c, O: Object> HeldWith<'a, 'c, O, Kept<O>> {
         requires reserved { HasRoom O.meaning O.held_back O.needs O.fits O.ready self call copy }
         requires owner { IsOwn (view_in self).owners (O.owner call) }
         requires stamp { (store_of self).stamp.0 < stamp.0 }
-        ensures pass { IsPassOf self.entry.cell.now self.exit.0.now × IsSamePass self.entry.pass.now self.exit.0.now }
+        ensures pass { IsPassOf (cell_of self.entry) self.exit.0.now × IsSamePass (pass_of self.entry) self.exit.0.now }
         ensures added { view_of self.exit.0.now ≡ with_entry (view_in self.entry) (entry stamp (number_of (pass_of self.entry)) call result) }
         ensures own { KnowsOwn O.owner (view_of self.exit.0.now) }
         ensures answer { (m : O.Meaning) × O.gives (O.meaning (store_of self.entry).object) call result m }
@@ -70,7 +70,7 @@ impl<'a, 'c, O: Object> HeldWith<'a, 'c, O, Kept<O>> {
     /// Makes room for a cut. Where memory is wanting nothing has changed.
     pub fn reserve_cut(&mut self) -> Result<(), NoMemory>
         requires held { IsHeld O.meaning O.gives O.held_back O.owner self.old }
-        ensures same_reference { self.new.pass.ghost_name ≡ self.old.pass.ghost_name }
+        ensures same_reference { reference_of self.new ≡ reference_of self.old }
         ensures same { (pass_of self.new ≡ pass_of self.old) × (cell_of self.new ≡ cell_of self.old) × (store_of self.new ≡ store_of self.old) }
         ensures held { IsHeld O.meaning O.gives O.held_back O.owner self.new }
         ensures ok { OnOk result (HasRoomToCut O.meaning O.held_back self.new) }
@@ -83,7 +83,7 @@ impl<'a, 'c, O: Object> HeldWith<'a, 'c, O, Kept<O>> {
         requires held { IsHeld O.meaning O.gives O.held_back O.owner self }
         requires ready { HasRoomToCut O.meaning O.held_back self }
         requires first { (view_in self).leads ≡ true }
-        ensures pass { IsPassOf self.entry.cell.now self.exit.0.now × IsSamePass self.entry.pass.now self.exit.0.now }
+        ensures pass { IsPassOf (cell_of self.entry) self.exit.0.now × IsSamePass (pass_of self.entry) self.exit.0.now }
         ensures entries { result.items ≡ (store_of self.entry).entries.items }
         ensures cut { CutsView O.meaning (store_of self.entry).object (view_in self.entry) (view_of self.exit.0.now) }
         ensures own { KnowsOwn O.owner (view_of self.exit.0.now) }
@@ -97,7 +97,7 @@ impl<'a, 'c, O: Object> HeldWith<'a, 'c, O, Kept<O>> {
     /// Gives the turn back, with nothing added.
     pub fn give_back(self)
         requires { IsHeld O.meaning O.gives O.held_back O.owner self }
-        ensures pass { IsPassOf self.entry.cell.now self.exit.0.now × IsSamePass self.entry.pass.now self.exit.0.now }
+        ensures pass { IsPassOf (cell_of self.entry) self.exit.0.now × IsSamePass (pass_of self.entry) self.exit.0.now }
         ensures same { view_of self.exit.0.now ≡ let_go (view_in self.entry) }
         ensures own { KnowsOwn O.owner (view_of self.exit.0.now) }
     {
