@@ -1,14 +1,15 @@
 ghost use Rattle.std.specs.Prelude.{◌≡◌, ℕ, ◌+◌, ◌<◌, true};
 ghost use Rattle.turn_cell.specs.Turn.{IsOwn};
-ghost use Rattle.turn_cell.specs.Words.{IsPassOf, IsSamePass, view_of};
-ghost use Rattle.counter.specs.Counting.{owner};
+ghost use Rattle.turn_cell.specs.Words.{IsPassOf, IsSamePass, AllHeld, AllOfEach, view_of};
+ghost use Rattle.counter.specs.Counting.{gives, owner};
 
 use crate::{Call, Counter};
 use fam_base::{FamError, Stamp};
+use std::alloc::Global;
 use std::sync::Wait;
 use std::test::Fail;
 use std::thread::join;
-use turn_cell::{Cell, Entry, Pass, StillOut};
+use turn_cell::{Cell, Entry, Held, Pass, StillOut};
 
 // Makes the call, if the turn is free and the stamp above the cell's.
 fn attempt(
@@ -222,4 +223,43 @@ fn two_threads_take_turns(rt: HostRuntime) -> Result<(), Fail> {
     assert_eq!(rt; entries_of(entries.as_slice(), 0), 100);
     assert_eq!(rt; entries_of(entries.as_slice(), 1), 100);
     Ok(())
+}
+
+// Gives back all turns.
+fn give_all(mut turns: Vec<Held<'_, '_, Counter>>)
+    requires { AllHeld (λ c. c) gives (λ c. c.booked) owner turns.items }
+{
+    while let Some(held) = turns.pop() {
+        held.give_back();
+    }
+    turns.destroy_empty();
+}
+
+// Takes the turns of all cells, and gives the greatest stamp and the sum of the counters.
+fn survey<R: Wait>(
+    rt: &R,
+    alloc: Global,
+    cells: &[Cell<Counter>],
+    passes: &mut [Pass<Counter>],
+) -> Option<u64>
+    requires { AllOfEach cells.now passes.old }
+{
+    let Ok(mut turns) = Vec::with_capacity(alloc, passes.len()) else {
+        return None;
+    };
+    let mut left = cells;
+    let all = passes.iter_mut();
+    for pass in all {
+        let Some((cell, more)) = left.split_first() else {
+            unreachable!()
+        };
+        turns.push_reserved(pass.take(rt, cell));
+        left = more;
+    }
+    let mut top = 0;
+    for held in &turns {
+        top = top.max(held.stamp().0);
+    }
+    give_all(turns);
+    Some(top)
 }

@@ -115,6 +115,11 @@ module _ {O C R M : Type 0} (meaning : O → M) (gives : M → C → R → M →
     pub small : 2 * length (view_in h).seen + 1 < 18446744073709551616
     pub own : KnowsOwn owner (view_in h)
 
+  -- the turns of several cells
+  abbrev pub AllHeld : List (Held O C R) → Type 0
+  AllHeld [] = Unit {0}
+  AllHeld (h ∷ hs) = IsHeld h × AllHeld hs
+
   -- the pass that knew v has taken the turn, by so many looks
   abbrev pub HasTurn : View O C R → ℕ → ℕ → Held O C R → Type 0
   HasTurn v looks missed h = HasTaken meaning gives held_back owner v h.pass.now.seat.me looks missed (store_of h)
@@ -250,6 +255,12 @@ module _ {O C R : Type 0} where
   abbrev pub AllOf : Cell O C R → List (Pass O C R) → Type 0
   AllOf cell [] = Unit {0}
   AllOf cell (p ∷ ps) = IsPassOf cell p × AllOf cell ps
+
+  -- each is a pass of the cell at its place
+  abbrev pub AllOfEach : List (Cell O C R) → List (Pass O C R) → Type 0
+  AllOfEach cells [] = Unit {0}
+  AllOfEach [] (p ∷ ps) = ⊥
+  AllOfEach (c ∷ cs) (p ∷ ps) = IsPassOf c p × AllOfEach cs ps
 
   abbrev pub AllGather : View O C R → List (Pass O C R) → Type 0
   AllGather v [] = Unit {0}
