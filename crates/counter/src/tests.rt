@@ -1,4 +1,4 @@
-ghost use Rattle.std.specs.Prelude.{◌≡◌, ℕ, ◌+◌, ◌<◌, true};
+ghost use Rattle.std.specs.Prelude.{◌≡◌, ℕ, ◌+◌, ◌<◌, ◌^◌, true, length, IfSome};
 ghost use Rattle.turn_cell.specs.Turn.{IsOwn};
 ghost use Rattle.turn_cell.specs.Words.{IsPassOf, IsSamePass, AllHeld, AllOfEach, view_of};
 ghost use Rattle.counter.specs.Counting.{gives, owner};
@@ -20,7 +20,8 @@ fn attempt(
 ) -> Option<Result<u64, FamError>>
     requires pass { IsPassOf cell.now pass.old }
     requires owner { IsOwn (view_of pass.old).owners (owner call) }
-    ensures { IsPassOf cell.now pass.new × IsSamePass pass.old pass.new }
+    ensures same { IsPassOf cell.now pass.new × IsSamePass pass.old pass.new }
+    ensures owners { (view_of pass.new).owners ≡ (view_of pass.old).owners }
 {
     let mut held = pass.try_take(cell)?;
     let closes = matches!(call, Call::Close(_));
@@ -55,11 +56,7 @@ fn cut(cell: &Cell<Counter>, first: &mut Pass<Counter>) -> Option<Vec<Entry<Call
 
 #[test]
 fn two_entries_fill_a_cell_of_limit_two(rt: HostRuntime) -> Result<(), Fail> {
-    let object = Counter {
-        value: 5,
-        booked: 0,
-    };
-    let Ok((cell, mut first)) = Cell::new(rt.alloc(), object, 2) else {
+    let Ok((cell, mut first)) = Cell::new(rt.alloc(), at(5), 2) else {
         panic!(rt; "no memory")
     };
     assert_eq!(rt; attempt(&cell, &mut first, Call::Add(1), 1), Some(Ok(5)));
@@ -110,11 +107,7 @@ fn is_busy(cell: &Cell<Counter>, one: &mut Pass<Counter>, other: &mut Pass<Count
 
 #[test]
 fn a_turn_is_held_and_a_pass_is_out(rt: HostRuntime) -> Result<(), Fail> {
-    let object = Counter {
-        value: 5,
-        booked: 0,
-    };
-    let Ok((cell, mut first)) = Cell::new(rt.alloc(), object, 2) else {
+    let Ok((cell, mut first)) = Cell::new(rt.alloc(), at(5), 2) else {
         panic!(rt; "no memory")
     };
     let mut second = cell.split(&mut first, 7);
@@ -192,11 +185,7 @@ fn entries_of(entries: &[Entry<Call, u64>], number: u64) -> usize {
 
 #[test]
 fn two_threads_take_turns(rt: HostRuntime) -> Result<(), Fail> {
-    let object = Counter {
-        value: 0,
-        booked: 0,
-    };
-    let Ok((cell, mut first)) = Cell::new(rt.alloc(), object, 1000) else {
+    let Ok((cell, mut first)) = Cell::new(rt.alloc(), at(0), 1000) else {
         panic!(rt; "no memory")
     };
     let second = cell.split(&mut first, 7);
@@ -262,4 +251,108 @@ fn survey<R: Wait>(
     }
     give_all(turns);
     Some(top)
+}
+
+#[test]
+fn three_turns_are_held_at_once(rt: HostRuntime) -> Result<(), Fail> {
+    let alloc: Global = rt.alloc();
+    let (Ok((a, first)), Ok((b, second)), Ok((c, third))) = (
+        Cell::new(alloc, at(1), 2),
+        Cell::new(alloc, at(2), 2),
+        Cell::new(alloc, at(3), 2),
+    ) else {
+        panic!(rt; "no memory")
+    };
+    let cells = [a, b, c];
+    let mut passes = [first, second, third];
+    assert_eq!(rt; add_to_all(&rt, &cells, &mut passes, 4), Some(5));
+    assert_eq!(rt; survey(&rt, alloc, &cells, &mut passes), Some(5));
+    Ok(())
+}
+
+#[test]
+fn a_joined_pass_is_taken_out_again(rt: HostRuntime) -> Result<(), Fail> {
+    let Ok((cell, mut first)) = Cell::new(rt.alloc(), at(5), 2) else {
+        panic!(rt; "no memory")
+    };
+    let second = cell.split(&mut first, 7);
+    let number = second.number();
+    cell.join(&mut first, second);
+    let mut second = cell.part(&mut first, number, 7);
+    assert_eq!(rt; attempt(&cell, &mut second, Call::Open(7), 1), Some(Ok(5)));
+    let full = FamError::HistoryFull { used: 2, need: 1 };
+    assert_eq!(rt; attempt(&cell, &mut first, Call::Get, 2), Some(Err(full)));
+    assert_eq!(rt; attempt(&cell, &mut second, Call::Close(7), 2), Some(Ok(5)));
+    let Ok(passes) = Vec::from_array(rt.alloc(), [first, second]) else {
+        panic!(rt; "no memory")
+    };
+    let Ok((counter, entries)) = cell.close(passes) else {
+        panic!(rt; "a pass is out")
+    };
+    assert_eq!(rt; counter.booked, 0);
+    assert_eq!(rt; entries_of(entries.as_slice(), number), 2);
+    Ok(())
+}
+
+fn at(value: u64) -> Counter
+    ensures { result.booked ≡ 0 }
+{
+    Counter { value, booked: 0 }
+}
+
+// Adds 1 to each counter at one stamp above all of theirs, or to none of them.
+#[cycle(add_at_once)]
+fn add_to_all<R: Wait>(
+    rt: &R,
+    cells: &[Cell<Counter>],
+    passes: &mut [Pass<Counter>],
+    stamp: u64,
+) -> Option<u64>
+    requires each { AllOfEach cells.now passes.old }
+    requires early { stamp < 2 ^ 62 }
+    ensures each { AllOfEach cells.now passes.new }
+    ensures later { IfSome result (λ t. stamp < t) }
+{
+    let Some((pass, rest)) = passes.split_first_mut() else {
+        return Some(stamp + 1);
+    };
+    let Some((cell, more)) = cells.split_first() else {
+        unreachable!()
+    };
+    add_to_one(rt, cell, pass, more, rest, stamp)
+}
+
+// The same on this cell and on the others.
+#[cycle(add_at_once)]
+fn add_to_one<R: Wait>(
+    rt: &R,
+    cell: &Cell<Counter>,
+    pass: &mut Pass<Counter>,
+    more: &[Cell<Counter>],
+    rest: &mut [Pass<Counter>],
+    stamp: u64,
+) -> Option<u64>
+    requires one { IsPassOf cell.now pass.old }
+    requires each { AllOfEach more.now rest.old }
+    requires early { stamp < 2 ^ 62 }
+    ensures one { IsPassOf cell.now pass.new }
+    ensures each { AllOfEach more.now rest.new }
+    ensures later { IfSome result (λ t. stamp < t) }
+{
+    let mut held = pass.take(rt, cell);
+    let own = held.stamp().0;
+    let Ok(copy) = held.reserve(&Call::Add(1), Stamp(stamp)) else {
+        held.give_back();
+        return None;
+    };
+    match add_to_all(rt, more, rest, stamp.max(own)) {
+        Some(t) => {
+            held.finish(Call::Add(1), Stamp(t), copy);
+            Some(t)
+        }
+        None => {
+            held.give_back();
+            None
+        }
+    }
 }

@@ -225,11 +225,11 @@ module _ {O C R M : Type 0} (meaning : O → M) (answers : M → C → R → M �
         (λ (b : (j ≢ id) × (get_elem? views j ≡ some y)). apart i j x y a.1 b.1 m hx hy))
         (was j y g)))
         (was i x e) where
-      of_c : (x : V) → x ≡ c → has m (f x) ≡ true → m ≡ d
-      of_c x is h = has_one m d (subst (λ (z : List ℕ). has m z ≡ true) (ap f is ∙ fc) h)
+          of_c : (x : V) → x ≡ c → has m (f x) ≡ true → m ≡ d
+          of_c x is h = has_one m d (subst (λ (z : List ℕ). has m z ≡ true) (ap f is ∙ fc) h)
 
-      of_p : (x : V) → x ≡ p → has m (f x) ≡ true → (has m (f v) ≡ true) × (m ≢ d)
-      of_p x is h = has_without m d (f v) (subst (λ (z : List ℕ). has m z ≡ true) (ap f is ∙ fp) h)
+          of_p : (x : V) → x ≡ p → has m (f x) ≡ true → (has m (f v) ≡ true) × (m ≢ d)
+          of_p x is h = has_without m d (f v) (subst (λ (z : List ℕ). has m z ≡ true) (ap f is ∙ fp) h)
 
     -- the first view now
     pub record LeadNow (u : V) : Type 0 where

@@ -14,4 +14,4 @@ mod view;
 pub use cell::{Cell, Held, HeldWith, Kept, Pass};
 pub use closing::StillOut;
 pub use object::Object;
-pub use view::{Entry, Slot, Store, Turn, View, ViewOf};
+pub use view::{Entry, Part, Slot, Store, Turn, View, ViewOf};
