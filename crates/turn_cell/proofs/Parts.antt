@@ -1,17 +1,16 @@
 -- A part that is taken out again keeps the rule.
-use Rattle.std.proofs.Common.{append-nil, length-set, eq-eqb, ne_eqb, ◌≡◌, ℕ, ◌+◌, ◌-◌, ◌*◌, ◌<◌, ◌≤◌, ◌≢◌, eqb, Bool, true, false, ◌||◌, List, [], ◌∷◌, ◌++◌, length, get_or, set, refl, sym, ap, ◌∙◌, subst, inl, inr, ◌⊎◌, ⊎_elim, arith, append_assoc, Option, Some, None}
+use Rattle.std.proofs.Common.{length-set, eq-eqb, ne_eqb, ◌≡◌, ℕ, ◌+◌, ◌-◌, ◌<◌, ◌≢◌, eqb, Bool, true, false, List, [], ◌∷◌, ◌++◌, length, get_or, set, refl, sym, ap, ◌∙◌, subst, inl, inr, ◌⊎◌, ⊎_elim, arith, Option, Some, None}
 use mathlib.Core.Logic.{dite}
-use mathlib.Core.Option.{none, some, some-injective, some-ne-none}
+use mathlib.Core.Option.{some, some-injective}
 use native.Mathlib.Decide.{ℕ_discrete}
 use lib.ListN.{get_elem?}
-use Rattle.std.proofs.lemmas.Bool.{eqb-true}
 use Rattle.atomic_table.proofs.Lists.{at_set, set_here, set_else, at_longer, at_last}
-use Rattle.atomic_table.specs.Table.{State, Splits}
+use Rattle.atomic_table.specs.Table.{Splits}
 use Rattle.turn_cell.specs.declared.view.Entry.{Entry}
 use Rattle.turn_cell.specs.declared.view.Part.{Part}
 use Rattle.turn_cell.specs.declared.view.Store.{Store}
 use Rattle.turn_cell.specs.declared.view.View.{View}
-use Rattle.turn_cell.specs.Turn.{Hand, has, without, pick, total, one_if, by, IsBy, IsApart, IsOnce, AllBy, AllApart, AllOthers, AllParts, AllGiven, numbers_of, but, part_of, remaining, parted, KnowsOwn, Knows, Ranks, IsHome, IsOut, Turned}
+use Rattle.turn_cell.specs.Turn.{Hand, has, without, pick, one_if, by, IsBy, IsApart, IsOnce, AllBy, AllApart, AllOthers, AllParts, AllGiven, numbers_of, but, part_of, remaining, parted, KnowsOwn, Knows, Ranks, IsHome, IsOut, Turned}
 use Rattle.atomic_table.specs.declared.shared.Seat.{Seat}
 use Rattle.turn_cell.specs.declared.cell.Cell.{Cell}
 use Rattle.turn_cell.specs.declared.cell.Pass.{Pass}

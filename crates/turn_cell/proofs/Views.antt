@@ -1,11 +1,11 @@
 -- What a pass knows after several steps.
-use Rattle.std.proofs.Common.{ne_eqb, eq-eqb, add-zero, lit<, length-append, ◌≡◌, ℕ, ◌+◌, ◌*◌, ◌/◌, ◌%◌, ◌<◌, ◌≤◌, eqb, Bool, true, false, ◌||◌, List, [], ◌∷◌, ◌++◌, length, take, drop, refl, sym, ap, ◌∙◌, subst, arith, inl, inr, append_assoc, append-nil, add_assoc, zero, suc, Option, Some, None}
+use Rattle.std.proofs.Common.{ne_eqb, add-zero, lit<, length-append, ◌≡◌, ℕ, ◌+◌, ◌*◌, ◌<◌, ◌≤◌, Bool, true, false, ◌||◌, List, [], ◌∷◌, ◌++◌, length, take, drop, refl, sym, ap, ◌∙◌, subst, arith, inl, inr, append_assoc, append-nil, add_assoc, zero, suc, Option, Some, None}
 use Rattle.fam_base.specs.declared.naming.Stamp.{Stamp}
 use Rattle.turn_cell.specs.declared.view.Entry.{Entry}
 use Rattle.turn_cell.specs.declared.view.Part.{Part}
 use Rattle.turn_cell.specs.declared.view.Store.{Store}
 use Rattle.turn_cell.specs.declared.view.View.{View}
-use Rattle.turn_cell.specs.Turn.{Hand, has, by, AllParts, AllBy, AllNamed, AllOthers, moved, turning, Later, KnowsOwn, Looks, IsStored, Takes, freed, released, Turned, IsOwn, Rises, Leads, LeadsFrom, Knows, starting, joined, last_part, numbers_of, pick}
+use Rattle.turn_cell.specs.Turn.{Hand, has, AllOthers, moved, turning, Later, KnowsOwn, Looks, IsStored, Takes, freed, released, Turned, IsOwn, Rises, Leads, Knows, starting, joined, last_part, numbers_of, pick}
 use mathlib.Core.Logic.{dite}
 use native.Mathlib.Decide.{ℕ_discrete}
 use lib.ListN.{get_elem?}
@@ -14,9 +14,9 @@ use Rattle.atomic_table.specs.Table.{rest, step, opening, Allows}
 use Rattle.atomic_table.specs.declared.shared.Seat.{Seat}
 use Rattle.turn_cell.specs.declared.cell.Cell.{Cell}
 use Rattle.turn_cell.specs.declared.cell.Pass.{Pass}
-use Rattle.turn_cell.specs.Words.{Missed, HasTaken, IsOf, IsPassOf, CanGive, Held, IsHeld, IsReserved, IsMade, IsNew, IsCut, CutsView, entry, with_entry, let_go}
-use Rattle.turn_cell.proofs.Lists.{drop_before, empty_if, take_all, has_left, has_one, has_first, not_both, others_append, take_before, rises_length, rises_snoc, leads_snoc, by_snoc, by_append, named_append, parts_still}
-use Rattle.turn_cell.proofs.Steps.{SameRank, MayAdd, adds_one, releases, same_base}
+use Rattle.turn_cell.specs.Words.{HasTaken, IsOf, IsPassOf, CanGive, Held, IsHeld, IsReserved, IsMade, IsNew, IsCut, CutsView, entry, with_entry, let_go}
+use Rattle.turn_cell.proofs.Lists.{drop_before, empty_if, take_all, has_one, has_first, not_both, others_append, take_before, rises_length, rises_snoc, leads_snoc, by_snoc, by_append, named_append, parts_still}
+use Rattle.turn_cell.proofs.Steps.{SameRank, adds_one, releases, same_base}
 
 module _ {O C R : Type 0} where
   pub later_one : (owner : C → Option ℕ) (v w : View O C R) (r missed : ℕ) → Looks owner v r missed w → Later v 1 missed w

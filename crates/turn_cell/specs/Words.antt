@@ -12,7 +12,7 @@ use Rattle.turn_cell.specs.declared.cell.Cell.{Cell}
 use Rattle.turn_cell.specs.declared.cell.Pass.{Pass}
 use Rattle.turn_cell.specs.declared.cell.HeldWith.{HeldWith}
 use Rattle.turn_cell.specs.declared.cell.Kept.{Kept}
-use Rattle.turn_cell.specs.Turn.{has, by, total, one_if, pick, StartsWith, numbers_of, last_part, AllParts, AllNamed, AllOthers, Rises, Hand, turning, freed, Later, KnowsOwn, Adds, IsStored, Leads, LeadsFrom}
+use Rattle.turn_cell.specs.Turn.{has, by, total, one_if, pick, StartsWith, numbers_of, last_part, AllNamed, AllOthers, Rises, Hand, turning, freed, Later, KnowsOwn, Adds, IsStored, Leads, LeadsFrom}
 
 module _ {O C R : Type 0} where
   -- how many entries there may be between two cuts, the reserved ones counted

@@ -1,7 +1,6 @@
-use Rattle.std.proofs.Common.{rules, ◌≡◌, ℕ, ◌∷◌, List, refl, sym, ap, ◌∙◌, subst, true}
-use Rattle.turn_cell.specs.declared.view.View.{View}
-use Rattle.turn_cell.specs.Turn.{has, AllApart, KnowsOwn, Hand, remaining, parted}
-use Rattle.turn_cell.proofs.Parts.{parts, own_part, pass_left, pass_parted}
+use Rattle.std.proofs.Common.{rules, refl, sym, ap, subst}
+use Rattle.turn_cell.specs.Turn.{KnowsOwn}
+use Rattle.turn_cell.proofs.Parts.{parts, own_part, pass_left}
 use Rattle.turn_cell.proofs.cell.Cell.part_as.Goals as goal
 
 pub split_seat-seat-requires : goal.split_seat-seat-requires
