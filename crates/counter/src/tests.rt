@@ -173,10 +173,8 @@ fn add_hundred<R: Wait>(
 
 // Whether all stamps and replies stand in order without a gap.
 fn is_in_order(entries: &[Entry<Call, u64>]) -> bool {
-    entries
-        .iter()
-        .enumerate()
-        .all(|(at, entry)| entry.reply == at as u64 && entry.stamp.0.wrapping_sub(1) == at as u64)
+    entries.iter().enumerate().all(|(at, entry)| entry.reply == at as u64
+        && entry.stamp.0.wrapping_sub(1) == at as u64)
 }
 
 fn entries_of(entries: &[Entry<Call, u64>], number: u64) -> usize {

@@ -219,7 +219,7 @@ module _ {O C R M : Type 0} (meaning : O → M) where
   abbrev pub CutsView : O → View O C R → View O C R → Type 0
   CutsView x v w = (base : O) × (meaning base ≡ meaning x) × (w ≡ record v { holds = false; cut = length v.seen; base = Some base })
 
-module _ {O C R M : Type 0} (meaning : O → M) (gives : M → C → R → M → Type 0) (owner : C → Option ℕ) where
+module _ {O C R M : Type 0} (meaning : O → M) (gives : M → C → R → M → Type 0) (held_back : M → ℕ) (owner : C → Option ℕ) where
   -- x is the object at the end, all that v has seen is the history, and es are its entries since the last cut
   pub record IsClosed (v : View O C R) (x : O) (es : List (Entry C R)) : Type 0 where
     pub before : List (Entry C R)
@@ -231,6 +231,7 @@ module _ {O C R M : Type 0} (meaning : O → M) (gives : M → C → R → M →
     pub run : LeadsFrom meaning gives v.origin v.seen (meaning x)
     pub leads : Leads gives (meaning base) es (meaning x)
     pub rises : Rises 0 v.seen top
+    pub within : length es + held_back (meaning x) ≤ v.limit
     pub named : AllNamed v.numbers v.seen
     pub own : KnowsOwn owner v
 
@@ -298,7 +299,7 @@ module _ {O C R : Type 0} where
     pub led : AllLedBy all.seat.me.0 done
     pub numbers : (k : ℕ) → has k all.seat.me.0.numbers ≡ true → has k (numbers_in done) ≡ true
 
-module _ {O C R M : Type 0} (meaning : O → M) (gives : M → C → R → M → Type 0) where
+module _ {O C R M : Type 0} (meaning : O → M) (gives : M → C → R → M → Type 0) (held_back : M → ℕ) where
   -- x is the object of the cell at its end, es are the entries since the last cut, and `before` are those before it, where these were its passes.
   -- All of them are a run of the object from the one that the cell was made with
   pub record Closes (cell : Cell O C R) (passes : List (Pass O C R)) (x : O) (es : List (Entry C R)) : Type 0 where
@@ -308,6 +309,7 @@ module _ {O C R M : Type 0} (meaning : O → M) (gives : M → C → R → M →
     pub made : AllMade (before ++ es) passes
     pub top : ℕ
     pub rises : Rises 0 (before ++ es) top
+    pub within : length es + held_back (meaning x) ≤ limit_of cell
     pub base : O
     pub based : AllBased (length before) base passes
     pub leads : Leads gives (meaning base) es (meaning x)
