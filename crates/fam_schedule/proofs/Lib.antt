@@ -1,0 +1,9 @@
+mod Options
+mod Told
+mod Moves
+mod Places
+mod Follows
+mod Comes
+mod Tame
+mod Runs
+pub mod Whole
