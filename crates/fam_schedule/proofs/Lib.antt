@@ -7,3 +7,4 @@ mod Comes
 mod Tame
 mod Runs
 pub mod Whole
+pub mod Acting

@@ -1,11 +1,16 @@
 //! Laws of the schedule, each the contract of a function that does nothing.
 
-ghost use Rattle.fam_schedule.specs.Laws.{ScheduledHistoriesAreRuns};
+ghost use Rattle.fam_schedule.specs.Laws.{ScheduledHistoriesAreRuns, StopsWhereNobodyMayAct};
 ghost use Rattle.fam_schedule.specs.Worked.{PiecesComeInAnyOrder, FencesOrder, ContextsReply, CrashesHappen};
 
 /// A history that the schedule gives is one legal run of its script.
 pub fn scheduled_histories_are_runs()
     ensures { ScheduledHistoriesAreRuns }
+{}
+
+/// The schedule stops only where nobody may act.
+pub fn stops_where_nobody_may_act()
+    ensures { StopsWhereNobodyMayAct }
 {}
 
 /// Pieces of calls that nothing orders come in any order.
