@@ -193,11 +193,11 @@ appended_none : {A : Type 0} (xs ys : List A) → xs ++ ys ≡ [] → (xs ≡ []
 appended_none [] ys h = (refl, h)
 appended_none (x ∷ xs) ys h = cc
 
-mapped_none : {A B : Type 0} (f : A → B) (xs : List A) → map f xs ≡ [] → xs ≡ []
+pub mapped_none : {A B : Type 0} (f : A → B) (xs : List A) → map f xs ≡ [] → xs ≡ []
 mapped_none f [] h = refl
 mapped_none f (x ∷ xs) h = cc
 
-filtered_none : {A : Type 0} (test : A → Bool) (xs : List A) → filter test xs ≡ [] → All (λ x. test x ≡ false) xs
+pub filtered_none : {A : Type 0} (test : A → Bool) (xs : List A) → filter test xs ≡ [] → All (λ x. test x ≡ false) xs
 filtered_none test [] h = All-nil (λ x. test x ≡ false)
 filtered_none test (x ∷ xs) h = by_test (test x) test x xs refl h (λ e. filtered_none test xs e)
   where
@@ -207,7 +207,7 @@ filtered_none test (x ∷ xs) h = by_test (test x) test x xs refl h (λ e. filte
     by_test false test x xs e h rest =
         let one : filter test (x ∷ xs) ≡ filter test xs = rw e refl in All-cons (λ y. test y ≡ false) x xs e (rest (sym one ∙ h))
 
-below_at : (P : ℕ → Type 0) (n k : ℕ) → All P (numbers_below n) → k < n → P k
+pub below_at : (P : ℕ → Type 0) (n k : ℕ) → All P (numbers_below n) → k < n → P k
 below_at P n k all low =
     let longer : length (numbers_below n) ≡ n = length-range_with_len 0 n in
     let same : get_or (numbers_below n) k 0 ≡ 0 + k = get_or-range_with_len 0 n k 0 low in

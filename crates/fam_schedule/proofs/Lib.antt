@@ -8,3 +8,5 @@ mod Tame
 mod Runs
 pub mod Whole
 pub mod Acting
+mod Finding
+pub mod Pending

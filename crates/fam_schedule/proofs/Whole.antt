@@ -24,10 +24,10 @@ use Rattle.fam_schedule.proofs.Runs.{TellsAll, tells_next}
 
 -- the start
 
-abbrev pair : {A : Type 0} → ℕ → A → ℕ × A
+abbrev pub pair : {A : Type 0} → ℕ → A → ℕ × A
 pair n x = (n, x)
 
-enumerated : {A : Type 0} (n : ℕ) (xs : List A) (k : ℕ) (x : A) → slice_get xs k ≡ Some x → slice_get (enumerate_from n xs) k ≡ Some (pair (n + k) x)
+pub enumerated : {A : Type 0} (n : ℕ) (xs : List A) (k : ℕ) (x : A) → slice_get xs k ≡ Some x → slice_get (enumerate_from n xs) k ≡ Some (pair (n + k) x)
 enumerated n xs k x there =
     let low : k < length xs = slice_get_within xs k x there in
     let same : length (enumerate_from n xs) ≡ length xs = length-enumerate_from n xs in
