@@ -10,3 +10,5 @@ pub mod Whole
 pub mod Acting
 mod Finding
 pub mod Pending
+mod Keeps
+mod Changes
