@@ -87,7 +87,7 @@ same_some : {A : Type 0} (x y : A) → Some x ≡ Some y → x ≡ y
 same_some x y e = cc
 
 -- what stands at d once place c is set
-set_at : {A : Type 0} (same : Bool) (xs : List A) (c d : ℕ) (x y z : A) → (d == c) ≡ same → slice_get xs c ≡ Some x → slice_get (slice_set xs c y) d ≡ Some z →
+pub set_at : {A : Type 0} (same : Bool) (xs : List A) (c d : ℕ) (x y z : A) → (d == c) ≡ same → slice_get xs c ≡ Some x → slice_get (slice_set xs c y) d ≡ Some z →
     ((d ≡ c) × (z ≡ y)) ⊎ (slice_get xs d ≡ Some z)
 set_at true xs c d x y z e there at =
     let place : d ≡ c = eqb-true d c e in
@@ -141,7 +141,7 @@ keeps_reported stripes x y same k o at =
     (m.0, m.1, ap (λ q. q.call) (sym m.2), λ n made. subst (IsMade stripes n) (sym m.2) (made_reported stripes n m.0 made))
 
 -- the operation that is found
-found : (xs : List Operation) (call : ℕ) (o : Option ℕ) (old : Operation) → place_of call_number call xs ≡ o → (o >>= λ k. slice_get xs k) ≡ Some old →
+pub found : (xs : List Operation) (call : ℕ) (o : Option ℕ) (old : Operation) → place_of call_number call xs ≡ o → (o >>= λ k. slice_get xs k) ≡ Some old →
     (k : ℕ) × (place_of call_number call xs ≡ Some k) × (slice_get xs k ≡ Some old)
 found xs call None old e h = cc
 found xs call (Some k) old e h = (k, e, h)

@@ -12,3 +12,5 @@ mod Finding
 pub mod Pending
 mod Keeps
 mod Changes
+mod Issued
+pub mod Steps
