@@ -14,3 +14,4 @@ mod Keeps
 mod Changes
 mod Issued
 pub mod Steps
+pub mod Ended

@@ -47,7 +47,7 @@ use Rattle.fam_model.specs.Step.{step, effect}
 use Rattle.fam_model.specs.Turn.{is_in_turn}
 use Rattle.fam_schedule.specs.Made.{IsMade, StandsAt, AreMade}
 use Rattle.fam_schedule.proofs.Options.{bind_some, when_some, map_some, if_some}
-use Rattle.fam_schedule.proofs.Changes.{Grows, KeepsAll, grows_made, grows_same, grows_with, keeps_same, keeps_none, keeps_reported, keeps_operation, found}
+use Rattle.fam_schedule.proofs.Changes.{Grows, KeepsAll, grows_made, grows_same, grows_with, keeps_same, keeps_none, keeps_reported, keeps_operation, found, set_at}
 use Rattle.fam_schedule.proofs.Issued.{is_lawful, issued_made, grows_issued}
 use Rattle.fam_schedule.proofs.Keeps.{made_answered, made_lost, made_reported}
 
@@ -321,18 +321,25 @@ refused_leads stripes limits rows round p next asked error doubt h =
 pub record GrowsAt (stripes : ℕ) (state : State) (pe : ℕ) (p : ProgramState) (next : State) : Type 0 where
   pub is : ProgramState
   pub programs : next.programs ≡ slice_set state.programs pe is
+  pub service : next.service ≡ state.service
   pub grows : Grows stripes p is
 
-grows_at : (stripes : ℕ) (state base next : State) (pe : ℕ) (p q : ProgramState) → base.programs ≡ state.programs → with_program base pe q ≡ next → Grows stripes p q → GrowsAt stripes state pe p next
+grows_at : (stripes : ℕ) (state base next : State) (pe : ℕ) (p q : ProgramState) → (base.programs ≡ state.programs) × (base.service ≡ state.service) →
+    with_program base pe q ≡ next → Grows stripes p q → GrowsAt stripes state pe p next
 grows_at stripes state base next pe p q same e g =
-    record { is = q; programs = ap (λ s. s.programs) (sym e) ∙ ap (λ ps. slice_set ps pe q) same; grows = g }
+    record {
+      is = q;
+      programs = ap (λ s. s.programs) (sym e) ∙ ap (λ ps. slice_set ps pe q) same.0;
+      service = ap (λ s. s.service) (sym e) ∙ same.1;
+      grows = g;
+    }
 
 grows_member : (stripes : ℕ) (state next : State) (pe : ℕ) (p q : ProgramState) → with_member state pe q ≡ next → Grows stripes p q → GrowsAt stripes state pe p next
-grows_member stripes state next pe p q e g = record { is = q; programs = ap (λ s. s.programs) (sym e); grows = g }
+grows_member stripes state next pe p q e g = record { is = q; programs = ap (λ s. s.programs) (sym e); service = ap (λ s. s.service) (sym e); grows = g }
 
-changed_programs : (state : State) (c : Option Change) → (changed state c).programs ≡ state.programs
-changed_programs state None = refl
-changed_programs state (Some c) = refl
+changed_programs : (state : State) (c : Option Change) → ((changed state c).programs ≡ state.programs) × ((changed state c).service ≡ state.service)
+changed_programs state None = (refl, refl)
+changed_programs state (Some c) = (refl, refl)
 
 effect_grows : (limits : Limits) (state next : State) (pe : ℕ) (p : ProgramState) (c : ℕ) (what : What) → is_lawful state.service ≡ true →
     effect limits state pe p c what ≡ Some next → GrowsAt (stripe_count state.service) state pe p next
@@ -343,29 +350,29 @@ effect_grows limits state next pe p c (what.Meta asked given) lawful h =
     (meta_leads (stripe_count state.service) state.rows p m.0 asked given m.1)
 effect_grows limits state next pe p c (what.Issue asked given) lawful h =
     let m = map_some (with_program state pe) (issue_step state.service p asked given) next h in
-    grows_at (stripe_count state.service) state state next pe p m.0 refl m.2 (issue_leads (issue_refusal state.service p asked) state.service p m.0 asked given lawful m.1)
+    grows_at (stripe_count state.service) state state next pe p m.0 (refl, refl) m.2 (issue_leads (issue_refusal state.service p asked) state.service p m.0 asked given lawful m.1)
 effect_grows limits state next pe p c (what.Piece j given) lawful h =
     let base = record state { memory = memory_by_piece state.memory p c j given } in
     let m = map_some (with_program base pe) (piece_step limits state.rows state.memory p c j given) next h in
-    grows_at (stripe_count state.service) state base next pe p m.0 refl m.2 (piece_leads (stripe_count state.service) limits state.rows state.memory p m.0 c j given m.1)
+    grows_at (stripe_count state.service) state base next pe p m.0 (refl, refl) m.2 (piece_leads (stripe_count state.service) limits state.rows state.memory p m.0 c j given m.1)
 effect_grows limits state next pe p c (what.Answer given) lawful h =
     let m = map_some (with_program state pe) (answer_step p.started state.round p given) next h in
-    grows_at (stripe_count state.service) state state next pe p m.0 refl m.2 (answer_leads (stripe_count state.service) p.started state.round p m.0 given m.1)
+    grows_at (stripe_count state.service) state state next pe p m.0 (refl, refl) m.2 (answer_leads (stripe_count state.service) p.started state.round p m.0 given m.1)
 effect_grows limits state next pe p c (what.OpenContext k) lawful h =
     let m = map_some (with_program state pe) (open_step p k) next h in
-    grows_at (stripe_count state.service) state state next pe p m.0 refl m.2 (open_leads (stripe_count state.service) p m.0 k m.1)
+    grows_at (stripe_count state.service) state state next pe p m.0 (refl, refl) m.2 (open_leads (stripe_count state.service) p m.0 k m.1)
 effect_grows limits state next pe p c (what.CloseContext k given) lawful h =
     let m = map_some (with_program state pe) (close_step p k given) next h in
-    grows_at (stripe_count state.service) state state next pe p m.0 refl m.2 (close_leads (stripe_count state.service) p m.0 k given m.1)
+    grows_at (stripe_count state.service) state state next pe p m.0 (refl, refl) m.2 (close_leads (stripe_count state.service) p m.0 k given m.1)
 effect_grows limits state next pe p c (what.Fence k) lawful h =
     let m = map_some (with_program state pe) (fence_step p k) next h in
-    grows_at (stripe_count state.service) state state next pe p m.0 refl m.2 (fence_leads (stripe_count state.service) p m.0 k m.1)
+    grows_at (stripe_count state.service) state state next pe p m.0 (refl, refl) m.2 (fence_leads (stripe_count state.service) p m.0 k m.1)
 effect_grows limits state next pe p c (what.Quiet k given) lawful h =
     let m = map_some (with_program state pe) (quiet_step p k given) next h in
-    grows_at (stripe_count state.service) state state next pe p m.0 refl m.2 (quiet_leads (stripe_count state.service) p m.0 k given m.1)
+    grows_at (stripe_count state.service) state state next pe p m.0 (refl, refl) m.2 (quiet_leads (stripe_count state.service) p m.0 k given m.1)
 effect_grows limits state next pe p c (what.Wait k named given) lawful h =
     let m = map_some (with_program state pe) (wait_step p k named given) next h in
-    grows_at (stripe_count state.service) state state next pe p m.0 refl m.2 (wait_leads (stripe_count state.service) p m.0 k named given m.1)
+    grows_at (stripe_count state.service) state state next pe p m.0 (refl, refl) m.2 (wait_leads (stripe_count state.service) p m.0 k named given m.1)
 effect_grows limits state next pe p c what.Arrive lawful h =
     let m = map_some (with_member state pe) (arrive_step state.round p) next h in
     grows_member (stripe_count state.service) state next pe p m.0 m.2 (arrive_leads (stripe_count state.service) state.round p m.0 m.1)
@@ -377,8 +384,47 @@ effect_grows limits state next pe p c what.Crash lawful h =
     grows_member (stripe_count state.service) state next pe p m.0 m.2 (crash_leads (stripe_count state.service) p m.0 m.1)
 effect_grows limits state next pe p c (what.Lose j) lawful h =
     let m = map_some (with_program state pe) (lose_step p c j) next h in
-    grows_at (stripe_count state.service) state state next pe p m.0 refl m.2 (lose_leads (stripe_count state.service) p m.0 c j m.1)
+    grows_at (stripe_count state.service) state state next pe p m.0 (refl, refl) m.2 (lose_leads (stripe_count state.service) p m.0 c j m.1)
 effect_grows limits state next pe p c (what.Refused asked error doubt) lawful h =
     let m = map_some (with_program state pe) (refused_step limits state.rows state.round p asked error doubt) next h in
-    grows_at (stripe_count state.service) state state next pe p m.0 refl m.2
+    grows_at (stripe_count state.service) state state next pe p m.0 (refl, refl) m.2
     (refused_leads (stripe_count state.service) limits state.rows state.round p m.0 asked error doubt m.1)
+
+-- all programs
+
+-- the operations of all programs are well made
+abbrev pub AllMade : State → Type 0
+AllMade state = (pe : ℕ) (p : ProgramState) → program_of state pe ≡ Some p → AreMade (stripe_count state.service) p
+
+-- the event has changed its program, which has grown
+pub record StepGrows (state : State) (event : Event) (next : State) : Type 0 where
+  pub was : ProgramState
+  pub there : program_of state event.pe.0 ≡ Some was
+  pub after : GrowsAt (stripe_count state.service) state event.pe.0 was next
+
+pub step_grows : (limits : Limits) (state next : State) (event : Event) → is_lawful state.service ≡ true → step limits state event ≡ Some next → StepGrows state event next
+step_grows limits state next event lawful h =
+    let b = bind_some (program_of state event.pe.0)
+    (λ p. if is_in_turn p event.call event.what then effect limits state event.pe.0 p event.call event.what else None) next h in
+    let c = if_some (is_in_turn b.0 event.call event.what) (effect limits state event.pe.0 b.0 event.call event.what) next b.2 in
+    record { was = b.0; there = b.1; after = effect_grows limits state next event.pe.0 b.0 event.call event.what lawful c.1 }
+
+same_some : {A : Type 0} (x y : A) → Some x ≡ Some y → x ≡ y
+same_some x y e = cc
+
+one_made : (state next : State) (event : Event) (pe : ℕ) (p : ProgramState) (g : StepGrows state event next) → AllMade state → program_of next pe ≡ Some p →
+    ((pe ≡ event.pe.0) × (p ≡ g.after.is)) ⊎ (program_of state pe ≡ Some p) → AreMade (stripe_count state.service) p
+one_made state next event pe p g all there (inl (place, is)) =
+    subst (AreMade (stripe_count state.service)) (sym is) (grows_made (stripe_count state.service) g.was g.after.is g.after.grows (all event.pe.0 g.was g.there))
+one_made state next event pe p g all there (inr other) = all pe p other
+
+-- a step keeps the operations of all programs well made
+pub step_made : (limits : Limits) (state next : State) (event : Event) → is_lawful state.service ≡ true → step limits state event ≡ Some next → AllMade state → AllMade next
+step_made limits state next event lawful h all pe p there =
+    let g = step_grows limits state next event lawful h in
+    let made = one_made state next event pe p g all there
+    (set_at (pe == event.pe.0) state.programs event.pe.0 pe g.was g.after.is p refl g.there (ap (λ ps. slice_get ps pe) (sym g.after.programs) ∙ there)) in
+    subst (λ service. AreMade (stripe_count service) p) (sym g.after.service) made
+
+pub step_service : (limits : Limits) (state next : State) (event : Event) → is_lawful state.service ≡ true → step limits state event ≡ Some next → next.service ≡ state.service
+step_service limits state next event lawful h = (step_grows limits state next event lawful h).after.service
