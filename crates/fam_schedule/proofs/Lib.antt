@@ -15,3 +15,4 @@ mod Changes
 mod Issued
 pub mod Steps
 pub mod Ended
+mod Texts
