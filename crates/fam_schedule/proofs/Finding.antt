@@ -26,6 +26,9 @@ get_behind x xs k y there =
 same_some : {A : Type 0} (x y : A) → Some x ≡ Some y → x ≡ y
 same_some x y e = cc
 
+pub get_none : {A : Type 0} (k : ℕ) (x : A) → slice_get [] k ≡ Some x → k < k
+get_none k x there = let low : k < 0 = slice_get_within [] k x there in omega arith
+
 -- the first one
 
 -- the least place at which the test holds, and the element there

@@ -16,3 +16,4 @@ mod Issued
 pub mod Steps
 pub mod Ended
 mod Texts
+mod Lawful
