@@ -17,3 +17,5 @@ pub mod Steps
 pub mod Ended
 mod Texts
 mod Lawful
+mod Going
+mod Begins

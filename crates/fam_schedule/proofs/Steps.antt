@@ -59,7 +59,7 @@ pub record IsPlaced (p : ProgramState) (call : ℕ) (at : Placed) : Type 0 where
   pub operation : operation_of at.context call ≡ Some at.operation
   pub number : at.operation.call ≡ call
 
-numbered : (context : Context) (call : ℕ) (operation : Operation) → operation_of context call ≡ Some operation → operation.call ≡ call
+pub numbered : (context : Context) (call : ℕ) (operation : Operation) → operation_of context call ≡ Some operation → operation.call ≡ call
 numbered context call operation h =
     let place = found context.operations call (place_of call_number call context.operations) operation refl h in
     let passes = (position-Some (λ o. call_number o == call) context.operations place.0 operation place.1).1 in
@@ -74,7 +74,7 @@ is_placed p call at h =
     let same : made b.0 d.0 e.0 ≡ at = cc in
     subst (IsPlaced p call) same (record { there = d.1; operation = e.1; number = numbered d.0 call e.0 e.1 })
 
-opened_at : (p : ProgramState) (c : ℕ) (context : Context) → open_context p c ≡ Some context → slice_get p.contexts c ≡ Some context
+pub opened_at : (p : ProgramState) (c : ℕ) (context : Context) → open_context p c ≡ Some context → slice_get p.contexts c ≡ Some context
 opened_at p c context h =
     let b = bind_some (slice_get p.contexts c) (λ x. when x.is_open x) context h in
     let w = when_some b.0.is_open b.0 context b.2 in
@@ -269,7 +269,7 @@ close_leads stripes p next c given h =
     (grows_with stripes p (with_context (counted p) c (y b.0)) c b.0 (y b.0) (opened_at p c b.0 b.1) (keeps_reported stripes b.0 (y b.0) refl) refl (more p.next_call))
 
 -- the copy that is waited for
-waited : (p : ProgramState) (c named : ℕ) (context : Context) (operation : Operation) → slice_get p.contexts c ≡ Some context → unreported_copy p c named ≡ Some operation →
+pub waited : (p : ProgramState) (c named : ℕ) (context : Context) (operation : Operation) → slice_get p.contexts c ≡ Some context → unreported_copy p c named ≡ Some operation →
     operation_of context named ≡ Some operation
 waited p c named context operation there h =
     let test : Operation → Bool = λ o. is_copy o.kind && is_unreported o in
