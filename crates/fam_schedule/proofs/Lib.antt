@@ -19,3 +19,4 @@ mod Texts
 mod Lawful
 mod Going
 mod Begins
+mod Rests
