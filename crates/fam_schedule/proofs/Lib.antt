@@ -20,3 +20,5 @@ mod Lawful
 mod Going
 mod Begins
 mod Rests
+mod Staying
+mod Lives
