@@ -21,4 +21,5 @@ mod Going
 mod Begins
 mod Rests
 mod Staying
+mod Has
 mod Lives
