@@ -64,7 +64,7 @@ Tells program pe n (begun.Barrier c) history = Awaits program pe n c history
 
 -- an event that is not the program's
 
-waits_below : (pe n c : ℕ) (asked : Call) (history : List Event) → (w : Waits pe c asked history) → c < n → Below pe n history
+pub waits_below : (pe n c : ℕ) (asked : Call) (history : List Event) → (w : Waits pe c asked history) → c < n → Below pe n history
 waits_below pe n c asked history w h =
     let number : w.issue.call ≡ c = w.number in
     let all : Below pe n (w.earlier ++ w.issue ∷ w.later) =

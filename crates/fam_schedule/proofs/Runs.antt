@@ -5,6 +5,7 @@ use Rattle.std.proofs.lemmas.Bool.{eqb-true}
 use Rattle.rand_pcg.specs.Lcg.{Lcg}
 use Rattle.fam_model.specs.declared.call.Call.{Call}
 use Rattle.fam_model.specs.declared.call.Call.TheVariants as call
+use Rattle.fam_model.specs.declared.call.DataOp.{DataOp}
 use Rattle.fam_model.specs.declared.event.Event.{Event}
 use Rattle.fam_model.specs.declared.event.What.{What}
 use Rattle.fam_model.specs.declared.event.What.TheVariants as what
@@ -54,18 +55,18 @@ pub record IsReplied (p : ProgramState) (made : What) : Type 0 where
   pub reply_is : reply_made made ≡ Some given
   pub nothing : started_after p made ≡ begun.Nothing
 
--- it has no reply yet, and an operation or a barrier is started
+-- it has no reply yet: it is the issue of an operation that is waited for, or an arrival
 abbrev pub IsBegun : ProgramState → What → Type 0
 IsBegun p made =
-    (reply_made made ≡ None) × ((started_after p made ≡ begun.Operation p.next_call) ⊎ (started_after p made ≡ begun.Barrier p.next_call))
+    (reply_made made ≡ None) × (((c : ℕ) × (op : DataOp) × (made ≡ what.Issue (call.Data c op true) reply.Issued)) ⊎ (made ≡ what.Arrive))
 
 replied : (p : ProgramState) (made : What) (given : Reply) → reply_made made ≡ Some given → started_after p made ≡ begun.Nothing → IsReplied p made ⊎ IsBegun p made
 replied p made given e f = inl (record { given = given; reply_is = e; nothing = f })
 
 -- a call that is made has its reply, or is started
-leaves : (p : ProgramState) (made : What) (asked : Call) → call_made made ≡ Some asked → IsReplied p made ⊎ IsBegun p made
+pub leaves : (p : ProgramState) (made : What) (asked : Call) → call_made made ≡ Some asked → IsReplied p made ⊎ IsBegun p made
 leaves p (what.Meta a given) asked e = replied p (what.Meta a given) given refl refl
-leaves p (what.Issue (call.Data c op true) reply.Issued) asked e = inr (refl, inl refl)
+leaves p (what.Issue (call.Data c op true) reply.Issued) asked e = inr (refl, inl (c, op, refl))
 leaves p (what.Issue (call.Data c op true) reply.Done) asked e = replied p (what.Issue (call.Data c op true) reply.Done) reply.Done refl refl
 leaves p (what.Issue (call.Data c op true) (reply.Bytes b)) asked e = replied p (what.Issue (call.Data c op true) (reply.Bytes b)) (reply.Bytes b) refl refl
 leaves p (what.Issue (call.Data c op true) (reply.Region b)) asked e = replied p (what.Issue (call.Data c op true) (reply.Region b)) (reply.Region b) refl refl
@@ -105,13 +106,13 @@ tells_as : (text : Text) (pe n m : ℕ) (s t : Started) (history : List Event) �
 tells_as text pe n m s t history e f h =
     subst (λ k. Tells text pe k t history) (sym e) (subst (λ x. Tells text pe n x history) (sym f) h)
 
-equal : (n : ℕ) → (n == n) ≡ true
+pub equal : (n : ℕ) → (n == n) ≡ true
 equal n = grind arith
 
-counted_up : (p : ProgramState) (made : What) (asked : Call) → call_made made ≡ Some asked → number_after p made ≡ p.next_call + 1
+pub counted_up : (p : ProgramState) (made : What) (asked : Call) → call_made made ≡ Some asked → number_after p made ≡ p.next_call + 1
 counted_up p made asked e = rw e refl
 
-same_call_twice : (asked : Call) → is_call (Some asked) asked ≡ true
+pub same_call_twice : (asked : Call) → is_call (Some asked) asked ≡ true
 same_call_twice asked = call_laws.laws-law.refl asked
 
 -- a call of the program
@@ -122,13 +123,13 @@ made_tells text pe p is history made asked s e due moved (inl r) =
     tells_as text pe (p.next_call + 1) is.next_call begun.Nothing is.started (history ++ event_of pe p.next_call made ∷ [])
     (moved.number ∙ counted_up p made asked e) (moved.started ∙ r.nothing)
     (tells_replied text pe p.next_call history (event_of pe p.next_call made) asked r.given s (equal pe) refl e r.reply_is due)
-made_tells text pe p is history made asked s e due moved (inr (none, inl o)) =
+made_tells text pe p is history made asked s e due moved (inr (none, inl (c, op, o))) =
     tells_as text pe (p.next_call + 1) is.next_call (begun.Operation p.next_call) is.started (history ++ event_of pe p.next_call made ∷ [])
-    (moved.number ∙ counted_up p made asked e) (moved.started ∙ o)
+    (moved.number ∙ counted_up p made asked e) (moved.started ∙ ap (started_after p) o)
     (tells_started text pe p.next_call history (event_of pe p.next_call made) asked s (equal pe) refl e none due)
 made_tells text pe p is history made asked s e due moved (inr (none, inr b)) =
     tells_as text pe (p.next_call + 1) is.next_call (begun.Barrier p.next_call) is.started (history ++ event_of pe p.next_call made ∷ [])
-    (moved.number ∙ counted_up p made asked e) (moved.started ∙ b)
+    (moved.number ∙ counted_up p made asked e) (moved.started ∙ ap (started_after p) b)
     (tells_started text pe p.next_call history (event_of pe p.next_call made) asked s (equal pe) refl e none due)
 
 -- the answer of the program's started call
@@ -174,10 +175,10 @@ own_by script run text pe p is event (begun.Barrier c) there h tells moved =
 
 -- one event more
 
-apart_not_mine : (event : Event) (pe : ℕ) → (event.pe.0 == pe) ≡ false → is_mine pe event ≡ false
+pub apart_not_mine : (event : Event) (pe : ℕ) → (event.pe.0 == pe) ≡ false → is_mine pe event ≡ false
 apart_not_mine event pe e = rw e refl
 
-silent_not_mine : (event : Event) (pe : ℕ) (b : Bool) → (event.pe.0 == pe) ≡ b → speaks event.what ≡ false → is_mine pe event ≡ false
+pub silent_not_mine : (event : Event) (pe : ℕ) (b : Bool) → (event.pe.0 == pe) ≡ b → speaks event.what ≡ false → is_mine pe event ≡ false
 silent_not_mine event pe true e f = rw (e, f) refl
 silent_not_mine event pe false e f = rw e refl
 
@@ -227,7 +228,7 @@ own_one script text run event next words pe text_there one moves same p there co
     }
 
 -- the event of a program is its own
-event_of_program : (script : Script) (run : Run) (pe : ℕ) (p : ProgramState) (s : Started) (event : Event) → event_after script run pe p s ≡ Some event → event.pe.0 ≡ pe
+pub event_of_program : (script : Script) (run : Run) (pe : ℕ) (p : ProgramState) (s : Started) (event : Event) → event_after script run pe p s ≡ Some event → event.pe.0 ≡ pe
 event_of_program script run pe p begun.Nothing event h =
     let last : Text → Call → What → Option Event = λ program asked first. Some (event_of pe p.next_call first) in
     let b = bind_some (slice_get script.programs pe)
