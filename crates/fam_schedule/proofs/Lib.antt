@@ -23,3 +23,5 @@ mod Rests
 mod Staying
 mod Has
 mod Lives
+mod Living
+pub mod RunEnds

@@ -97,7 +97,7 @@ runs_same text before later pe round now p begun.Nothing same low moves (some, n
 runs_same text before later pe round now p (begun.Operation c) same low moves (has, not) = (has, not_arrived round now p low not moves)
 runs_same text before later pe round now p (begun.Barrier c) same low moves arrived = arrived
 
-other_lives : (text : Text) (run : Run) (event : Event) (next : State) (words : Lcg) (pe : ℕ) (p : ProgramState) → Tells text pe p.next_call p.started run.before → Lives text run pe p →
+pub other_lives : (text : Text) (run : Run) (event : Event) (next : State) (words : Lcg) (pe : ℕ) (p : ProgramState) → Tells text pe p.next_call p.started run.before → Lives text run pe p →
     is_mine pe event ≡ false → (next.round ≡ run.now.round) ⊎ (next.round ≡ run.now.round + 1) → Lives text (went_on run event next words) pe p
 other_lives text run event next words pe p tells live other moves =
     let same = tells_calls text pe p.next_call p.started run.before event tells other in
@@ -142,7 +142,7 @@ own_of state next event p q h was there =
     }
 
 -- the rounds of arrival stay low
-arrived_low : (round now : ℕ) (p q : ProgramState) (made : What) → IsLow round p → Rests round p made q → (now ≡ round) ⊎ (now ≡ round + 1) → IsLow now q
+pub arrived_low : (round now : ℕ) (p q : ProgramState) (made : What) → IsLow round p → Rests round p made q → (now ≡ round) ⊎ (now ≡ round + 1) → IsLow now q
 arrived_low round now p q made low rests moves =
     low_higher round now q (λ r e. by_event made r (sym rests.arrived_is ∙ e)) moves
   where
@@ -165,18 +165,18 @@ arrived_low round now p q made low rests moves =
 -- a piece
 
 -- which program stands there after a step of this form
-stands_as : (base next : State) (pe : ℕ) (p m q : ProgramState) → slice_get base.programs pe ≡ Some p → with_program base pe m ≡ next → program_of next pe ≡ Some q → m ≡ q
+pub stands_as : (base next : State) (pe : ℕ) (p m q : ProgramState) → slice_get base.programs pe ≡ Some p → with_program base pe m ≡ next → program_of next pe ≡ Some q → m ≡ q
 stands_as base next pe p m q was same there =
     same_some m q (sym (ap (λ s. program_of s pe) (sym same) ∙ get_set_same base.programs pe p m was) ∙ there)
 
-piece_keeps : (state next : State) (pe c j : ℕ) (p q : ProgramState) (given : PieceAnswer) → program_of state pe ≡ Some p → effect service_limits state pe p c (what.Piece j given) ≡ Some next → program_of next pe ≡ Some q →
+pub piece_keeps : (state next : State) (pe c j : ℕ) (p q : ProgramState) (given : PieceAnswer) → program_of state pe ≡ Some p → effect service_limits state pe p c (what.Piece j given) ≡ Some next → program_of next pe ≡ Some q →
     (n : ℕ) → HasCall p n → HasCall q n
 piece_keeps state next pe c j p q given was h there n has =
     let base = record state { memory = memory_by_piece state.memory p c j given } in
     let m = map_some (with_program base pe) (piece_step service_limits state.rows state.memory p c j given) next h in
     subst (λ x. HasCall x n) (stands_as base next pe p m.0 q was m.2 there) (piece_has service_limits state.rows state.memory p m.0 c j n given m.1 has)
 
-lose_keeps : (state next : State) (pe c j : ℕ) (p q : ProgramState) → program_of state pe ≡ Some p → effect service_limits state pe p c (what.Lose j) ≡ Some next → program_of next pe ≡ Some q →
+pub lose_keeps : (state next : State) (pe c j : ℕ) (p q : ProgramState) → program_of state pe ≡ Some p → effect service_limits state pe p c (what.Lose j) ≡ Some next → program_of next pe ≡ Some q →
     (n : ℕ) → HasCall p n → HasCall q n
 lose_keeps state next pe c j p q was h there n has =
     let m = map_some (with_program state pe) (lose_step p c j) next h in
@@ -192,7 +192,7 @@ runs_piece text before later pe round now p q (begun.Operation c) same round_is 
     (keeps c has, ap (λ o. is_some_and o (λ at. at == now)) arrived ∙ ap (λ r. has_arrived r p) round_is ∙ not)
 runs_piece text before later pe round now p q (begun.Barrier c) same round_is arrived keeps (r, e) = (r, arrived ∙ e)
 
-piece_lives : (text : Text) (run : Run) (event : Event) (next : State) (words : Lcg) (pe : ℕ) (p q : ProgramState) → Tells text pe p.next_call p.started run.before → Lives text run pe p →
+pub piece_lives : (text : Text) (run : Run) (event : Event) (next : State) (words : Lcg) (pe : ℕ) (p q : ProgramState) → Tells text pe p.next_call p.started run.before → Lives text run pe p →
     is_mine pe event ≡ false → next.round ≡ run.now.round → q.is_local ≡ p.is_local → q.standing ≡ p.standing → q.arrived ≡ p.arrived → q.started ≡ p.started → q.next_call ≡ p.next_call →
     ((n : ℕ) → HasCall p n → HasCall q n) → Lives text (went_on run event next words) pe q
 piece_lives text run event next words pe p q tells live other round local stand arrived started number keeps =

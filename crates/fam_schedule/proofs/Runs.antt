@@ -182,7 +182,7 @@ pub silent_not_mine : (event : Event) (pe : ℕ) (b : Bool) → (event.pe.0 == p
 silent_not_mine event pe true e f = rw (e, f) refl
 silent_not_mine event pe false e f = rw e refl
 
-differ : (n m : ℕ) → (n == m) ≡ false → m ≢ n
+pub differ : (n m : ℕ) → (n == m) ≡ false → m ≢ n
 differ n m e = grind arith
 
 -- another program stands as it did
