@@ -1,8 +1,8 @@
 -- The first event of a call may come, where no piece is left.
-use Rattle.std.proofs.Common.{◌≡◌, ℕ, ◌+◌, ◌<◌, ◌≤◌, Bool, true, false, List, [], ◌∷◌, ◌++◌, refl, sym, ap, ◌∙◌, arith, subst, inl, inr}
-use Rattle.std.specs.Prelude.{◌==◌, ◌&&◌, ◌||◌, not, nat_lt, Option, Some, None, is_some, slice_get, if◌then◌else◌}
+use Rattle.std.proofs.Common.{◌≡◌, ℕ, Bool, true, false, List, [], ◌∷◌, ◌++◌, refl, sym, ap, ◌∙◌}
+use Rattle.std.specs.Prelude.{◌==◌, ◌&&◌, not, Option, Some, None, is_some, slice_get, if◌then◌else◌}
 use Rattle.std.specs.List.{list_any}
-use Rattle.std.specs.Option.{option_map, option_map_or}
+use Rattle.std.specs.Option.{option_map}
 use Rattle.fam_base.specs.declared.error.FamError.{FamError}
 use Rattle.fam_base.specs.declared.error.FamError.TheVariants.{BadHandle, Unsupported, Exists, Budget}
 use Rattle.fam_base.specs.declared.naming.Descriptor.{Descriptor}
@@ -13,10 +13,7 @@ use Rattle.fam_model.specs.declared.call.MetaCall.{MetaCall}
 use Rattle.fam_model.specs.declared.event.What.{What}
 use Rattle.fam_model.specs.declared.event.What.TheVariants as what
 use Rattle.fam_model.specs.declared.piece.Operation.{Operation}
-use Rattle.fam_model.specs.declared.reply.Reply.{Reply}
 use Rattle.fam_model.specs.declared.reply.Reply.TheVariants as reply
-use Rattle.fam_model.specs.declared.rows.Rows.{Rows}
-use Rattle.fam_model.specs.declared.service.Service.{Service}
 use Rattle.fam_model.specs.declared.state.Context.{Context}
 use Rattle.fam_model.specs.declared.state.ProgramState.{ProgramState}
 use Rattle.fam_model.specs.declared.script.Program.{Program as Text}
@@ -25,16 +22,16 @@ use Rattle.fam_model.specs.declared.state.Standing.TheVariants as standing
 use Rattle.fam_model.specs.declared.state.Started.TheVariants as begun
 use Rattle.fam_model.specs.declared.state.State.{State}
 use Rattle.fam_model.specs.ContextStep.{open_step, fence_step, quiet_step, close_step, wait_step, new_context}
-use Rattle.fam_model.specs.Directory.{first_case, error_or}
-use Rattle.fam_model.specs.EndStep.{arrive_step, leave_step, crash_step, may_arrive, has_pending}
-use Rattle.fam_model.specs.Issue.{issue_refusal, issue_refusals, targets, plan_refusals, is_over_budget}
+use Rattle.fam_model.specs.Directory.{error_or}
+use Rattle.fam_model.specs.EndStep.{arrive_step, leave_step, may_arrive, has_pending}
+use Rattle.fam_model.specs.Issue.{issue_refusal, targets, plan_refusals, is_over_budget}
 use Rattle.fam_model.specs.IssueStep.{issue_step, issue_with, accepted, with_issued}
 use Rattle.fam_model.specs.Limits.{service_limits}
 use Rattle.fam_model.specs.Lists.{◌>>=◌, when}
 use Rattle.fam_model.specs.MetaStep.{meta_step, may_reply}
-use Rattle.fam_model.specs.Operations.{has_left, is_pending, result, report, reported, as_reported, is_copy, is_unreported}
+use Rattle.fam_model.specs.Operations.{has_left, is_pending, result, report, reported, as_reported}
 use Rattle.fam_model.specs.Pieces.{pieces}
-use Rattle.fam_model.specs.Programs.{program_of, is_open, open_context, with_context, with_operation, operation_of, call_number, unreported_copy, counted, filled, request_of, is_running, is_member, has_arrived}
+use Rattle.fam_model.specs.Programs.{program_of, is_open, open_context, with_context, with_operation, operation_of, call_number, unreported_copy, counted, filled, request_of, is_running}
 use Rattle.fam_model.specs.Same.{same_reply}
 use Rattle.fam_model.specs.Shape.{is_shaped}
 use Rattle.fam_model.specs.Step.{effect, step}
@@ -44,7 +41,6 @@ use Rattle.fam_schedule.specs.Schedule.{Run, begins, due_reply, first_event, eve
 use Rattle.fam_schedule.proofs.Comes.{first_makes}
 use Rattle.fam_schedule.proofs.Finding.{any_at_place}
 use Rattle.fam_schedule.proofs.Going.{reply_same, case_none, there_is, has_reply, some_is}
-use Rattle.fam_schedule.proofs.Options.{bind_some, when_some}
 use Rattle.fam_schedule.proofs.Steps.{opened_at, waited}
 use Rattle.fam_schedule.proofs.Changes.{found}
 use Rattle.fam_model.specs.Lists.{place_of}
@@ -57,17 +53,17 @@ Takes state pe p made = is_some (effect service_limits state pe p p.next_call ma
 abbrev pub Goes : State → ℕ → ProgramState → Call → Type 0
 Goes state pe p asked = (made : What) × (first_event state.service state.rows p asked ≡ Some made) × Takes state pe p made
 
-some_map : {A B : Type 0} (f : A → B) (o : Option A) → is_some o ≡ true → is_some (option_map f o) ≡ true
+pub some_map : {A B : Type 0} (f : A → B) (o : Option A) → is_some o ≡ true → is_some (option_map f o) ≡ true
 some_map f None h = cc
 some_map f (Some x) h = refl
 
-some_when : {A : Type 0} (b : Bool) (x : A) → b ≡ true → is_some (when b x) ≡ true
+pub some_when : {A : Type 0} (b : Bool) (x : A) → b ≡ true → is_some (when b x) ≡ true
 some_when b x e = rw e refl
 
-some_bind : {A B : Type 0} (o : Option A) (x : A) (f : A → Option B) → o ≡ Some x → is_some (f x) ≡ true → is_some (o >>= f) ≡ true
+pub some_bind : {A B : Type 0} (o : Option A) (x : A) (f : A → Option B) → o ≡ Some x → is_some (f x) ≡ true → is_some (o >>= f) ≡ true
 some_bind o x f e h = rw e h
 
-bind_is : {A B : Type 0} (o : Option A) (x : A) (f : A → Option B) (y : B) → o ≡ Some x → f x ≡ Some y → (o >>= f) ≡ Some y
+pub bind_is : {A B : Type 0} (o : Option A) (x : A) (f : A → Option B) (y : B) → o ≡ Some x → f x ≡ Some y → (o >>= f) ≡ Some y
 bind_is o x f y e h = rw e h
 
 both_true : (a b : Bool) → a ≡ true → b ≡ true → (a && b) ≡ true
@@ -82,10 +78,12 @@ from_not false e = cc
 
 -- a call that is refused at once
 refused_goes : (state : State) (pe : ℕ) (p : ProgramState) (asked : Call) (error : FamError) → issue_refusal state.service p asked ≡ Some error → Goes state pe p asked
-refused_goes state pe p asked error e =
-    (what.Issue asked (reply.Error error), rw e refl,
-    some_map _ (issue_step state.service p asked (reply.Error error))
-    (ap is_some (ap (λ o. issue_with o state.service p asked (reply.Error error)) e) ∙ some_when (same_reply (reply.Error error) (reply.Error error)) (counted p) (reply_same (reply.Error error))))
+refused_goes state pe p asked error e = (
+  what.Issue asked (reply.Error error),
+  rw e refl,
+  some_map _ (issue_step state.service p asked (reply.Error error))
+      (ap is_some (ap (λ o. issue_with o state.service p asked (reply.Error error)) e) ∙ some_when (same_reply (reply.Error error) (reply.Error error)) (counted p) (reply_same (reply.Error error))),
+)
 
 -- a call that is not refused, with its first event
 goes_with : (state : State) (pe : ℕ) (p : ProgramState) (asked : Call) (made : What) → issue_refusal state.service p asked ≡ None → begins state.rows p asked ≡ Some made →
@@ -94,14 +92,14 @@ goes_with state pe p asked made e f takes = (made, rw e f, takes)
 
 -- what is not pending
 
-any_false : {A : Type 0} (test : A → Bool) (xs : List A) (k : ℕ) (x : A) → list_any test xs ≡ false → slice_get xs k ≡ Some x → test x ≡ false
+pub any_false : {A : Type 0} (test : A → Bool) (xs : List A) (k : ℕ) (x : A) → list_any test xs ≡ false → slice_get xs k ≡ Some x → test x ≡ false
 any_false test xs k x h there = by_test (test x) refl
   where
     by_test : (b : Bool) → test x ≡ b → test x ≡ false
     by_test false e = e
     by_test true e = let no : true ≡ false = sym (any_at_place test xs k x there e) ∙ h in cc
 
-not_pending : (p : ProgramState) (c : ℕ) (context : Context) → has_pending p ≡ false → slice_get p.contexts c ≡ Some context → is_pending context ≡ false
+pub not_pending : (p : ProgramState) (c : ℕ) (context : Context) → has_pending p ≡ false → slice_get p.contexts c ≡ Some context → is_pending context ≡ false
 not_pending p c context h there = any_false is_pending p.contexts c context h there
 
 not_left : (context : Context) (call : ℕ) (operation : Operation) → is_pending context ≡ false → operation_of context call ≡ Some operation → has_left operation ≡ false
@@ -253,7 +251,7 @@ in_turn_by p asked what.Crash e r n i s = rw (r, n) refl
 in_turn_by p asked (what.Lose j) e r n i s = refl
 in_turn_by p asked (what.Refused a error doubt) e r n i s = let same : a ≡ asked = cc in rw (r, n, i) (ap is_shaped same ∙ s)
 
-if_true : {A : Type 0} (b : Bool) (o : Option A) → b ≡ true → (if b then o else None) ≡ o
+pub if_true : {A : Type 0} (b : Bool) (o : Option A) → b ≡ true → (if b then o else None) ≡ o
 if_true b o e = rw e refl
 
 -- a running program with nothing started whose next call is this one has an event that may come

@@ -1,19 +1,19 @@
 -- A program whose operations are well made keeps them so.
-use Rattle.std.proofs.Common.{◌≡◌, ℕ, ◌+◌, ◌-◌, ◌<◌, ◌≤◌, Bool, true, false, List, [], ◌∷◌, ◌++◌, refl, sym, ap, ◌∙◌, arith, subst, suc, zero, inl, inr, get_or, le_refl, length-append}
-use Rattle.std.specs.Prelude.{◌%◌, ◌==◌, ◌&&◌, ◌≢◌, ◌⊎◌, not, Option, Some, None, All, slice_get, slice_set, map, length, if◌then◌else◌}
-use Rattle.std.specs.Option.{option_map, option_map_or}
-use Rattle.std.proofs.lemmas.Bool.{eqb-true, cases_lt}
+use Rattle.std.proofs.Common.{◌≡◌, ℕ, ◌<◌, ◌≤◌, Bool, true, false, List, [], refl, sym, ap, ◌∙◌, arith, subst, inl, inr, get_or}
+use Rattle.std.specs.Prelude.{◌==◌, ◌≢◌, ◌⊎◌, Option, Some, None, slice_get, slice_set, map, length}
+use Rattle.std.specs.Option.{option_map}
+use Rattle.std.proofs.lemmas.Bool.{eqb-true}
 use Rattle.std.proofs.lemmas.List.{length-set}
-use Rattle.std.proofs.lemmas.Option.{slice_get_within, slice_get-get_or, get_or_from_slice_get, slice_get-map}
+use Rattle.std.proofs.lemmas.Option.{slice_get_within, slice_get-get_or, slice_get-map}
 use Rattle.fam_model.specs.declared.piece.Operation.{Operation}
 use Rattle.fam_model.specs.declared.state.Context.{Context}
 use Rattle.fam_model.specs.declared.state.ProgramState.{ProgramState}
-use Rattle.fam_model.specs.Lists.{◌>>=◌, place_of, change_place}
-use Rattle.fam_model.specs.Operations.{as_reported, reported}
+use Rattle.fam_model.specs.Lists.{◌>>=◌, place_of}
+use Rattle.fam_model.specs.Operations.{as_reported}
 use Rattle.fam_model.specs.Programs.{call_number, operation_of, with_operation}
 use Rattle.fam_schedule.specs.Made.{IsMade, StandsAt, AreMade}
 use Rattle.fam_schedule.proofs.Places.{get_set_same, get_set_other}
-use Rattle.fam_schedule.proofs.Keeps.{made_reported, made_higher, get_changed}
+use Rattle.fam_schedule.proofs.Keeps.{made_reported, made_higher}
 
 -- where an operation comes from
 
@@ -116,8 +116,8 @@ grows_with stripes p next c x y there keeps same h =
       context = 0;
       place = 0;
       from = λ d k o at.
-      inl (from_set stripes p c x y d k o at.context there keeps at.at
-      (set_at (d == c) p.contexts c d x y at.context refl there (ap (λ cs. slice_get cs d) (sym same) ∙ at.there)));
+          inl (from_set stripes p c x y d k o at.context there keeps at.at
+          (set_at (d == c) p.contexts c d x y at.context refl there (ap (λ cs. slice_get cs d) (sym same) ∙ at.there)));
     }
 
 -- operations

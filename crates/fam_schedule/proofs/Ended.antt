@@ -1,5 +1,5 @@
 -- Where the schedule stops, no piece is left.
-use Rattle.std.proofs.Common.{◌≡◌, ℕ, ◌+◌, ◌<◌, ◌≤◌, Bool, true, false, List, [], ◌∷◌, ◌++◌, refl, sym, ap, ◌∙◌, arith, subst}
+use Rattle.std.proofs.Common.{◌≡◌, ℕ, ◌<◌, Bool, true, false, List, [], ◌∷◌, refl, sym, ap, ◌∙◌, arith, subst}
 use Rattle.std.specs.Prelude.{Option, Some, None, All, slice_get, length, map, nat_lt, replicate, zero, suc}
 use Rattle.std.specs.List.{enumerate_from}
 use Rattle.std.specs.Option.{option_map}
@@ -19,9 +19,9 @@ use Rattle.fam_model.specs.Limits.{service_limits}
 use Rattle.fam_model.specs.Opened.{new_program, closed_context}
 use Rattle.fam_model.specs.Pieces.{stripe_count}
 use Rattle.fam_model.specs.Programs.{program_of}
-use Rattle.fam_schedule.specs.Made.{IsMade, StandsAt, AreMade}
-use Rattle.fam_schedule.specs.Schedule.{Run, LeadsTo, IsScheduled, next_step, new_run, went_on}
-use Rattle.fam_schedule.proofs.Acting.{all_at, stops_still, enumerated_at}
+use Rattle.fam_schedule.specs.Made.{StandsAt, AreMade}
+use Rattle.fam_schedule.specs.Schedule.{Run, LeadsTo, IsScheduled, new_run, went_on}
+use Rattle.fam_schedule.proofs.Acting.{all_at, stops_still}
 use Rattle.fam_schedule.proofs.Issued.{is_lawful}
 use Rattle.fam_schedule.proofs.Pending.{nothing_pending}
 use Rattle.fam_schedule.proofs.Steps.{AllMade, step_made, step_service}

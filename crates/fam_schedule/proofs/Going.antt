@@ -1,43 +1,29 @@
 -- A call of a running program has a first event that may come, where no piece is left.
-use Rattle.std.proofs.Common.{◌≡◌, ℕ, ◌+◌, ◌<◌, ◌≤◌, Bool, true, false, List, [], ◌∷◌, ◌++◌, refl, sym, ap, ◌∙◌, arith, subst, inl, inr}
-use Rattle.std.specs.Prelude.{◌==◌, ◌&&◌, ◌||◌, not, nat_lt, nat_le, length, Option, Some, None, is_some, is_none, find, slice_get, if◌then◌else◌}
+use Rattle.std.proofs.Common.{◌≡◌, ℕ, Bool, true, false, List, [], ◌∷◌, refl, sym, ap, ◌∙◌}
+use Rattle.std.specs.Prelude.{◌&&◌, not, nat_lt, nat_le, length, Option, Some, None, is_some, is_none, find}
 use Rattle.std.specs.List.{list_any}
-use Rattle.std.specs.Option.{option_map, option_map_or, option_or}
 use Rattle.fam_base.specs.Name.{is_good_name}
 use Rattle.fam_base.specs.Permission.{is_allowed}
 use Rattle.fam_base.specs.declared.naming.Need.TheVariants.{Write}
 use Rattle.fam_base.specs.declared.error.FamError.{FamError}
-use Rattle.fam_base.specs.declared.error.FamError.TheVariants.{Absent, NoPermission, TooLarge, NoSpace, Exists, BadName, InUse, BadHandle, Unsupported}
-use Rattle.fam_base.specs.declared.naming.Descriptor.{Descriptor}
+use Rattle.fam_base.specs.declared.error.FamError.TheVariants.{Absent, NoPermission, TooLarge, NoSpace, Exists, BadName}
 use Rattle.fam_base.specs.declared.naming.Who.{Who}
-use Rattle.fam_model.specs.declared.call.Call.{Call}
-use Rattle.fam_model.specs.declared.call.Call.TheVariants as call
 use Rattle.fam_model.specs.declared.change.Change.{Change}
 use Rattle.fam_model.specs.declared.change.Change.TheVariants as change
-use Rattle.fam_model.specs.declared.event.What.{What}
-use Rattle.fam_model.specs.declared.event.What.TheVariants as what
-use Rattle.fam_model.specs.declared.piece.Operation.{Operation}
 use Rattle.fam_model.specs.declared.reply.Reply.{Reply}
 use Rattle.fam_model.specs.declared.reply.Reply.TheVariants as reply
 use Rattle.fam_model.specs.declared.request.Request.{Request}
 use Rattle.fam_model.specs.declared.request.Request.TheVariants as request
 use Rattle.fam_model.specs.declared.rows.RegionRow.{RegionRow}
-use Rattle.fam_model.specs.declared.rows.ItemRow.{ItemRow}
 use Rattle.fam_model.specs.declared.rows.Rows.{Rows}
-use Rattle.fam_model.specs.declared.service.Service.{Service}
-use Rattle.fam_model.specs.declared.state.Context.{Context}
-use Rattle.fam_model.specs.declared.state.ProgramState.{ProgramState}
 use Rattle.fam_model.specs.contracts.reply.ReplyEq.TheImpl.Laws as reply_laws
-use Rattle.fam_model.specs.Directory.{first_case, error_or, refusal, refusals, found, region_info, item_info, change_at, may_lie, first_base, first_choice, answer}
+use Rattle.fam_model.specs.Directory.{first_case, error_or, refusal, found, region_info, item_info, change_at, may_lie, first_base, first_choice, answer}
 use Rattle.fam_model.specs.Limits.{max_region_size, max_items, number_end}
 use Rattle.fam_model.specs.Lists.{◌>>=◌, when, is_some_and}
-use Rattle.fam_model.specs.MetaStep.{unchanging_reply, told_base, told_change, may_reply, meta_step}
-use Rattle.fam_model.specs.Programs.{request_of, filled, counted}
+use Rattle.fam_model.specs.MetaStep.{unchanging_reply, told_base, told_change, may_reply}
 use Rattle.fam_model.specs.Rows.{region_of, item_of, region_named, item_named, region_number, region_owner, descriptor_of, fits, least_base, no_gap, bases_up_to}
 use Rattle.fam_model.specs.Same.{same_reply}
 use Rattle.fam_schedule.specs.Schedule.{due_reply}
-use Rattle.fam_schedule.proofs.Finding.{first_of}
-use Rattle.fam_schedule.proofs.Options.{bind_some, when_some}
 
 pub reply_same : (r : Reply) → same_reply r r ≡ true
 reply_same r = reply_laws.laws-law.refl r

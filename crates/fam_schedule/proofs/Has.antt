@@ -1,56 +1,33 @@
 -- The operation of a call that is started is there until it is answered.
-use Rattle.std.proofs.Common.{◌≡◌, ℕ, ◌+◌, ◌<◌, ◌≤◌, Bool, true, false, List, [], ◌∷◌, ◌++◌, refl, sym, ap, ◌∙◌, arith, subst, le_refl, inl, inr, get_or, length-append}
-use Rattle.std.specs.Prelude.{◌==◌, ◌&&◌, ◌⊎◌, ◌≢◌, not, Option, Some, None, is_some, slice_get, slice_set, length, map, if◌then◌else◌}
-use Rattle.std.specs.Option.{option_map}
-use Rattle.std.proofs.lemmas.Bool.{eqb-true, cases_lt}
+use Rattle.std.proofs.Common.{◌≡◌, ℕ, ◌+◌, Bool, true, false, List, [], ◌∷◌, ◌++◌, refl, sym, ap, ◌∙◌, arith, subst, length-append}
+use Rattle.std.specs.Prelude.{◌==◌, ◌&&◌, ◌≢◌, Some, slice_get, slice_set, length}
+use Rattle.std.proofs.lemmas.Bool.{eqb-true}
 use Rattle.std.proofs.Math.Seq.{get_or-append_seam}
-use Rattle.std.proofs.lemmas.List.Quantifiers.{position-Some}
-use Rattle.std.proofs.lemmas.Option.{get_or_from_slice_get, slice_get-get_or}
+use Rattle.std.proofs.lemmas.Option.{slice_get-get_or}
 use Rattle.fam_base.specs.declared.naming.Descriptor.{Descriptor}
-use Rattle.fam_base.specs.declared.error.FamError.{FamError}
-use Rattle.fam_model.specs.declared.call.Call.{Call}
 use Rattle.fam_model.specs.declared.call.Call.TheVariants as call
 use Rattle.fam_model.specs.declared.call.DataOp.{DataOp}
-use Rattle.fam_model.specs.declared.call.MetaCall.{MetaCall}
-use Rattle.fam_model.specs.declared.call.MetaCall.TheVariants as meta
-use Rattle.fam_model.specs.declared.change.Change.{Change}
-use Rattle.fam_model.specs.declared.event.Event.{Event}
-use Rattle.fam_model.specs.declared.event.What.{What}
-use Rattle.fam_model.specs.declared.event.What.TheVariants as what
 use Rattle.fam_model.specs.declared.piece.MarkedPiece.{MarkedPiece}
 use Rattle.fam_model.specs.declared.piece.Operation.{Operation}
 use Rattle.fam_model.specs.declared.reply.PieceAnswer.{PieceAnswer}
-use Rattle.fam_model.specs.declared.reply.Reply.{Reply}
-use Rattle.fam_model.specs.declared.reply.Reply.TheVariants as reply
 use Rattle.fam_model.specs.declared.rows.Rows.{Rows}
 use Rattle.fam_model.specs.declared.service.Service.{Service}
 use Rattle.fam_model.specs.declared.state.Context.{Context}
 use Rattle.fam_model.specs.declared.state.ProgramState.{ProgramState}
-use Rattle.fam_model.specs.declared.state.Standing.TheVariants as standing
-use Rattle.fam_model.specs.declared.state.Started.{Started}
-use Rattle.fam_model.specs.declared.state.Started.TheVariants as begun
-use Rattle.fam_model.specs.declared.state.State.{State}
-use Rattle.fam_model.specs.ContextStep.{answer_step, open_step, fence_step, quiet_step, close_step, wait_step, new_context, with_nothing_started}
 use Rattle.fam_model.specs.Directory.{Memory}
-use Rattle.fam_model.specs.EndStep.{arrive_step, leave_step, crash_step, may_arrive, has_pending}
-use Rattle.fam_model.specs.Issue.{issue_refusal, targets}
-use Rattle.fam_model.specs.IssueStep.{issue_step, issue_with, accepted, with_issued, new_operation}
+use Rattle.fam_model.specs.Issue.{targets}
+use Rattle.fam_model.specs.IssueStep.{accepted, with_issued, new_operation}
 use Rattle.fam_model.specs.Limits.{Limits}
 use Rattle.fam_model.specs.Lists.{◌>>=◌, when, place_of}
-use Rattle.fam_model.specs.MetaStep.{meta_step, may_reply, served_change, changed}
-use Rattle.fam_model.specs.Operations.{has_left, is_pending, is_left, may_come, is_copy, is_unreported, result, report, reported, as_reported}
-use Rattle.fam_model.specs.Pieces.{pieces, stripe_count}
-use Rattle.fam_model.specs.PieceStep.{piece_step, lose_step, memory_by_piece, may_answer, due_answer, with_answer, without_piece, bytes_found}
-use Rattle.fam_model.specs.Programs.{program_of, with_program, with_member, is_open, open_context, with_context, with_operation, operation_of, context_of, call_number, Placed, placed, with_placed, unreported_copy, counted, filled, fill_region, fill_item, request_of, has_passed, has_crashed}
-use Rattle.fam_model.specs.RefusedStep.{refused_step, would_serve, may_refuse}
-use Rattle.fam_model.specs.Same.{same_reply}
-use Rattle.fam_model.specs.Step.{step, effect}
-use Rattle.fam_model.specs.Turn.{is_in_turn}
+use Rattle.fam_model.specs.Operations.{is_left, may_come}
+use Rattle.fam_model.specs.Pieces.{pieces}
+use Rattle.fam_model.specs.PieceStep.{piece_step, lose_step, may_answer, due_answer, with_answer, without_piece, bytes_found}
+use Rattle.fam_model.specs.Programs.{open_context, with_operation, operation_of, call_number, Placed, placed, with_placed, has_crashed}
 use Rattle.fam_schedule.specs.Made.{StandsAt}
-use Rattle.fam_schedule.proofs.Options.{bind_some, when_some, map_some, if_some}
+use Rattle.fam_schedule.proofs.Options.{bind_some, when_some}
 use Rattle.fam_schedule.proofs.Changes.{found}
 use Rattle.fam_schedule.proofs.Places.{get_set_same, get_set_other}
-use Rattle.fam_schedule.proofs.Steps.{IsPlaced, is_placed, opened_at, numbered}
+use Rattle.fam_schedule.proofs.Steps.{IsPlaced, is_placed, opened_at}
 
 -- some operation is of the call
 pub record HasCall (p : ProgramState) (call : ℕ) : Type 0 where
@@ -125,6 +102,7 @@ placed_has p next call n at new h same_call contexts has = by_context (has.conte
   where
     is : IsPlaced p call at
     is = is_placed p call at h
+
     by_context : (same : Bool) → (has.context == at.number) ≡ same → HasCall next n
     by_context true e =
         let place : has.context ≡ at.number = eqb-true has.context at.number e in
@@ -152,7 +130,7 @@ placed_has p next call n at new h same_call contexts has = by_context (has.conte
           stands = record {
             context = has.stands.context;
             there = ap (λ cs. slice_get cs has.context) contexts
-            ∙ get_set_other p.contexts at.number has.context has.stands.context (with_operation at.context new) has.stands.there apart;
+                ∙ get_set_other p.contexts at.number has.context has.stands.context (with_operation at.context new) has.stands.there apart;
             at = has.stands.at;
           };
           is_call = has.is_call;
@@ -177,4 +155,3 @@ lose_has p next c j n h has =
     let d = bind_some (slice_get b.0.operation.pieces j) (λ left. when (test left) (with_placed p b.0 (new b.0 left))) next b.2 in
     let w = when_some (test d.0) (with_placed p b.0 (new b.0 d.0)) next d.2 in
     has_as (with_placed p b.0 (new b.0 d.0)) next n w.1 (placed_has p (with_placed p b.0 (new b.0 d.0)) c n b.0 (new b.0 d.0) b.1 refl refl has)
-

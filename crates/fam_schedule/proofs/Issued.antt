@@ -1,11 +1,11 @@
 -- An operation that is issued is well made.
 use Rattle.std.proofs.Common.{◌≡◌, ℕ, ◌+◌, ◌-◌, ◌*◌, ◌<◌, ◌≤◌, Bool, true, false, List, [], ◌∷◌, ◌++◌, refl, sym, ap, ◌∙◌, arith, subst, suc, zero, inl, inr, get_or, length-append}
-use Rattle.std.specs.Prelude.{◌%◌, ◌==◌, ◌&&◌, ◌||◌, ◌⊎◌, not, Option, Some, None, All, slice_get, slice_set, map, length, take, drop, if◌then◌else◌, IsTrue}
+use Rattle.std.specs.Prelude.{◌%◌, ◌==◌, ◌&&◌, ◌||◌, ◌⊎◌, not, Option, Some, None, All, slice_get, slice_set, map, length, take, drop, if◌then◌else◌}
 use Rattle.std.specs.List.{flat_map}
 use Rattle.std.specs.Option.{option_map}
-use Rattle.std.proofs.lemmas.Bool.{eqb-true, cases_lt}
+use Rattle.std.proofs.lemmas.Bool.{cases_lt}
 use Rattle.std.proofs.lemmas.Nat.{mod_below}
-use Rattle.std.proofs.lemmas.List.{length-map, get_or_append_left}
+use Rattle.std.proofs.lemmas.List.{get_or_append_left}
 use Rattle.std.proofs.Math.Nat.{le-mul_of_pos_right}
 use Rattle.std.proofs.Math.Seq.{get_or-append_seam}
 use Rattle.std.proofs.lemmas.List.Elements.{All-nil, All-cons, All-map}
@@ -14,25 +14,23 @@ use Rattle.fam_base.specs.Name.{is_between}
 use Rattle.fam_base.specs.declared.naming.Descriptor.{Descriptor}
 use Rattle.fam_model.specs.declared.call.DataOp.{DataOp}
 use Rattle.fam_model.specs.declared.call.DataOp.TheVariants as data_op
-use Rattle.fam_model.specs.declared.call.Op.{Op}
 use Rattle.fam_model.specs.declared.piece.MarkedPiece.{MarkedPiece}
 use Rattle.fam_model.specs.declared.piece.Operation.{Operation}
 use Rattle.fam_model.specs.declared.piece.Part.{Part}
 use Rattle.fam_model.specs.declared.piece.PieceKind.{PieceKind}
 use Rattle.fam_model.specs.declared.piece.PieceKind.TheVariants as kind
-use Rattle.fam_model.specs.declared.piece.PlanKind.{PlanKind}
 use Rattle.fam_model.specs.declared.piece.PlanKind.TheVariants as plan
 use Rattle.fam_model.specs.declared.piece.PlanPiece.{PlanPiece}
 use Rattle.fam_model.specs.declared.service.Service.{Service}
 use Rattle.fam_model.specs.declared.state.Context.{Context}
 use Rattle.fam_model.specs.declared.state.ProgramState.{ProgramState}
 use Rattle.fam_model.specs.Atomic.{is_fetching, width_bytes}
-use Rattle.fam_model.specs.IssueStep.{left_piece, new_operation, with_issued}
-use Rattle.fam_model.specs.Operations.{is_left, is_served, is_copy, is_copy_write}
-use Rattle.fam_model.specs.Pieces.{pieces, plan_kind, stripe_count, piece_at, read_piece, write_piece, reads, writes, dealt, copies, all_cuts, part, strided, indexed, is_border, cut_where}
+use Rattle.fam_model.specs.IssueStep.{left_piece, new_operation}
+use Rattle.fam_model.specs.Operations.{is_left, is_served, is_copy}
+use Rattle.fam_model.specs.Pieces.{pieces, plan_kind, stripe_count, piece_at, read_piece, write_piece, reads, dealt, copies, all_cuts, part, strided, indexed, is_border, cut_where}
 use Rattle.fam_model.specs.PieceStep.{is_read}
 use Rattle.fam_model.specs.Services.{is_service}
-use Rattle.fam_schedule.specs.Made.{IsMade, StandsAt}
+use Rattle.fam_schedule.specs.Made.{IsMade}
 use Rattle.fam_schedule.proofs.Acting.{all_flat}
 use Rattle.fam_schedule.proofs.Finding.{get_zero, get_behind}
 use Rattle.fam_schedule.proofs.Changes.{OldAt, NewAt, Grows, set_at}
@@ -173,16 +171,16 @@ issued_made service n call epoch op blocking from to lawful low =
       call = low;
       placed = All-map (λ marked. marked.piece.place.stripe < stripe_count service) left_piece ps (pieces_on service op from to (some_stripes service lawful));
       waits = λ j write at left is_write.
-      let within : j < length (map left_piece ps) = slice_get_within (map left_piece ps) j write at in
-      let before : j - 1 < length (map left_piece ps) = omega arith in
-      let read = get_or (map left_piece ps) (j - 1) write in
-      let read_at : slice_get (map left_piece ps) (j - 1) ≡ Some read = slice_get-get_or (map left_piece ps) (j - 1) write before in
-      let from = left_at ps (j - 1) read read_at in
-      let read_left : is_left read ≡ true = ap is_left from.2 in
-      (read, read_at, or_left (is_left read) (is_served read.mark) read_left);
+          let within : j < length (map left_piece ps) = slice_get_within (map left_piece ps) j write at in
+          let before : j - 1 < length (map left_piece ps) = omega arith in
+          let read = get_or (map left_piece ps) (j - 1) write in
+          let read_at : slice_get (map left_piece ps) (j - 1) ≡ Some read = slice_get-get_or (map left_piece ps) (j - 1) write before in
+          let from = left_at ps (j - 1) read read_at in
+          let read_left : is_left read ≡ true = ap is_left from.2 in
+          (read, read_at, or_left (is_left read) (is_served read.mark) read_left);
       turns = λ j piece at copy.
-      let from_plan = left_at ps j piece at in
-      ap (λ marked. is_read marked.piece.kind) from_plan.2 ∙ copy_turns service op from to j from_plan.0 from_plan.1 copy;
+          let from_plan = left_at ps j piece at in
+          ap (λ marked. is_read marked.piece.kind) from_plan.2 ∙ copy_turns service op from to j from_plan.0 from_plan.1 copy;
     }
 
 -- one operation more
@@ -217,6 +215,6 @@ grows_issued stripes p next c x y new there grown call made same h =
       context = c;
       place = length x.operations;
       from = λ d k o at.
-      from_issue stripes c d k p next x y at.context new o there grown call made at.at
-      (set_at (d == c) p.contexts c d x y at.context refl there (ap (λ cs. slice_get cs d) (sym same) ∙ at.there));
+          from_issue stripes c d k p next x y at.context new o there grown call made at.at
+          (set_at (d == c) p.contexts c d x y at.context refl there (ap (λ cs. slice_get cs d) (sym same) ∙ at.there));
     }

@@ -1,17 +1,13 @@
 -- What happens to a piece leaves its operation well made.
-use Rattle.std.proofs.Common.{◌≡◌, ℕ, ◌+◌, ◌-◌, ◌<◌, ◌≤◌, Bool, true, false, List, [], ◌∷◌, refl, sym, ap, ◌∙◌, arith, subst, suc, zero, inl, inr, get_or}
-use Rattle.std.specs.Prelude.{◌%◌, ◌==◌, ◌&&◌, ◌||◌, ◌≢◌, ◌⊎◌, not, Option, Some, None, All, slice_get, slice_set, length, if◌then◌else◌}
-use Rattle.std.specs.Option.{option_map_or}
+use Rattle.std.proofs.Common.{◌≡◌, ℕ, ◌+◌, ◌-◌, ◌<◌, ◌≤◌, Bool, true, false, List, refl, sym, ap, ◌∙◌, arith, subst, inl, inr, get_or}
+use Rattle.std.specs.Prelude.{◌%◌, ◌==◌, ◌&&◌, ◌||◌, ◌≢◌, ◌⊎◌, not, Option, Some, None, slice_get, slice_set, length, if◌then◌else◌}
 use Rattle.std.proofs.lemmas.Bool.{eqb-true}
 use Rattle.std.proofs.lemmas.List.{length-set}
 use Rattle.std.proofs.lemmas.List.Elements.{All-from_get_or}
-use Rattle.std.proofs.lemmas.Option.{slice_get_within, slice_get-get_or, get_or_from_slice_get}
-use Rattle.fam_model.specs.declared.piece.Mark.{Mark}
+use Rattle.std.proofs.lemmas.Option.{slice_get_within, slice_get-get_or}
 use Rattle.fam_model.specs.declared.piece.Mark.TheVariants as mark
 use Rattle.fam_model.specs.declared.piece.MarkedPiece.{MarkedPiece}
 use Rattle.fam_model.specs.declared.piece.Operation.{Operation}
-use Rattle.fam_model.specs.declared.piece.PieceKind.{PieceKind}
-use Rattle.fam_model.specs.declared.piece.PlanPiece.{PlanPiece}
 use Rattle.fam_model.specs.declared.reply.PieceAnswer.{PieceAnswer}
 use Rattle.fam_model.specs.declared.reply.PieceAnswer.TheVariants as answer
 use Rattle.fam_model.specs.Lists.{change_place}
@@ -173,6 +169,7 @@ waits_other stripes n o reads j i first second left p made there reads_is at is_
         Waits (with_both o reads j first second) i
     shown r r_at same h =
         (r, get_both reads j first second o.pieces (i - 1) r r_at ∙ ap Some same, h)
+
     waits_by : (same b : Bool) → ((i - 1) == j) ≡ same → reads ≡ b → is_copy o.kind ≡ true → (i % 2 == 1) ≡ true → (r : MarkedPiece) → slice_get o.pieces (i - 1) ≡ Some r →
         (is_left r || is_served r.mark) ≡ true → is_read left.piece.kind ≡ not (j % 2 == 1) → reads ≡ is_read left.piece.kind → Waits (with_both o reads j first second) i
     waits_by true b e f copy odd r r_at h turn is_reads =
@@ -217,6 +214,7 @@ waits_both stripes n o reads j first second left made there reads_is changes i w
         (((q : MarkedPiece) → is_left (second q) ≡ false) ⊎ ((q : MarkedPiece) → is_served (first q).mark ≡ true)) → Waits (with_both o reads j first second) i
     by_change p p_at place h (inl never) = let no : true ≡ false = sym h ∙ never p in cc
     by_change p p_at place h (inr served) = waits_read o reads j i first second left there place served
+
     by_case : (same next : Bool) → (i == j) ≡ same → (reads && (i == j + 1)) ≡ next → (p : MarkedPiece) → slice_get o.pieces i ≡ Some p →
         write ≡ becomes reads j first second i p → Waits (with_both o reads j first second) i
     by_case true next e f p p_at same =
@@ -248,18 +246,18 @@ made_both stripes n o reads j first second left made there reads_is changes =
     record {
       call = made.call;
       placed = All-from_get_or (λ marked. marked.piece.place.stripe < stripes) (with_both o reads j first second).pieces left
-      (λ i low.
-      let y = get_or (with_both o reads j first second).pieces i left in
-      let at : slice_get (with_both o reads j first second).pieces i ≡ Some y = slice_get-get_or (with_both o reads j first second).pieces i left low in
-      let from = from_both reads j first second o.pieces i y at in
-      let place : y.piece.place ≡ from.0.piece.place = ap (λ p. p.piece.place) from.2 ∙ becomes_place first second (i == j) (reads && (i == j + 1)) from.0 changes in
-      let old : from.0.piece.place.stripe < stripes = all_at (λ marked. marked.piece.place.stripe < stripes) o.pieces i from.0 made.placed from.1 in
-      subst (λ place. place.stripe < stripes) (sym place) old);
+          (λ i low.
+          let y = get_or (with_both o reads j first second).pieces i left in
+          let at : slice_get (with_both o reads j first second).pieces i ≡ Some y = slice_get-get_or (with_both o reads j first second).pieces i left low in
+          let from = from_both reads j first second o.pieces i y at in
+          let place : y.piece.place ≡ from.0.piece.place = ap (λ p. p.piece.place) from.2 ∙ becomes_place first second (i == j) (reads && (i == j + 1)) from.0 changes in
+          let old : from.0.piece.place.stripe < stripes = all_at (λ marked. marked.piece.place.stripe < stripes) o.pieces i from.0 made.placed from.1 in
+          subst (λ place. place.stripe < stripes) (sym place) old);
       waits = waits_both stripes n o reads j first second left made there reads_is changes;
       turns = λ i y at copy.
-      let from = from_both reads j first second o.pieces i y at in
-      let kind : y.piece.kind ≡ from.0.piece.kind = ap (λ p. p.piece.kind) from.2 ∙ becomes_kind first second (i == j) (reads && (i == j + 1)) from.0 changes in
-      ap is_read kind ∙ made.turns i from.0 from.1 copy;
+          let from = from_both reads j first second o.pieces i y at in
+          let kind : y.piece.kind ≡ from.0.piece.kind = ap (λ p. p.piece.kind) from.2 ∙ becomes_kind first second (i == j) (reads && (i == j + 1)) from.0 changes in
+          ap is_read kind ∙ made.turns i from.0 from.1 copy;
     }
 
 -- an answer

@@ -1,57 +1,35 @@
 -- What holds of each running program between two steps.
-use Rattle.std.proofs.Common.{◌≡◌, ℕ, ◌+◌, ◌<◌, ◌≤◌, Bool, true, false, List, [], ◌∷◌, ◌++◌, refl, sym, ap, ◌∙◌, arith, subst, inl, inr, length, length-append, append-nil, le_refl}
-use Rattle.std.specs.Prelude.{◌==◌, ◌&&◌, ◌⊎◌, Option, Some, None, is_some, slice_get, slice_set, if◌then◌else◌}
-use Rattle.std.specs.List.{filter_map, flat_map}
-use Rattle.std.specs.Option.{option_map}
-use Rattle.std.proofs.lemmas.Bool.{eqb-true}
-use Rattle.std.proofs.lemmas.List.Elements.{filter_map-append}
+use Rattle.std.proofs.Common.{◌≡◌, ℕ, ◌+◌, ◌≤◌, true, false, List, [], ◌∷◌, ◌++◌, sym, ap, ◌∙◌, arith, subst, length}
+use Rattle.std.specs.Prelude.{◌==◌, ◌⊎◌, Option, Some, None, is_some, slice_get, if◌then◌else◌}
+use Rattle.std.specs.List.{filter_map}
 use Rattle.rand_pcg.specs.Lcg.{Lcg}
-use Rattle.fam_base.specs.declared.error.FamError.{FamError}
-use Rattle.fam_model.specs.declared.call.Call.{Call}
-use Rattle.fam_model.specs.declared.call.Call.TheVariants as call
-use Rattle.fam_model.specs.declared.call.DataOp.{DataOp}
 use Rattle.fam_model.specs.declared.event.Event.{Event}
 use Rattle.fam_model.specs.declared.event.What.{What}
 use Rattle.fam_model.specs.declared.event.What.TheVariants as what
 use Rattle.fam_model.specs.declared.reply.PieceAnswer.{PieceAnswer}
-use Rattle.fam_model.specs.declared.reply.Reply.{Reply}
-use Rattle.fam_model.specs.declared.reply.Reply.TheVariants as reply
-use Rattle.fam_model.specs.declared.rows.Rows.{Rows}
 use Rattle.fam_model.specs.declared.script.Program.{Program as Text}
 use Rattle.fam_model.specs.declared.script.Script.{Script}
-use Rattle.fam_model.specs.declared.service.Service.{Service}
 use Rattle.fam_model.specs.declared.state.ProgramState.{ProgramState}
-use Rattle.fam_model.specs.declared.state.Standing.TheVariants as standing
 use Rattle.fam_model.specs.declared.state.Started.{Started}
 use Rattle.fam_model.specs.declared.state.Started.TheVariants as begun
 use Rattle.fam_model.specs.declared.state.State.{State}
-use Rattle.fam_model.specs.ContextStep.{answer_step, with_nothing_started}
-use Rattle.fam_model.specs.EqualCalls.{equal_calls}
-use Rattle.fam_model.specs.Equals.{equal_replies}
-use Rattle.fam_model.specs.History.{calls, reply_made, answered_with}
-use Rattle.fam_model.specs.Issue.{issue_refusal}
-use Rattle.fam_model.specs.IssueStep.{issue_step, issue_with, accepted}
-use Rattle.fam_model.specs.Limits.{Limits, service_limits}
-use Rattle.fam_model.specs.Lists.{◌>>=◌, when, is_some_and}
-use Rattle.fam_model.specs.Operations.{result}
+use Rattle.fam_model.specs.History.{calls}
+use Rattle.fam_model.specs.Limits.{service_limits}
+use Rattle.fam_model.specs.Lists.{is_some_and}
 use Rattle.fam_model.specs.PieceStep.{piece_step, lose_step, memory_by_piece}
-use Rattle.fam_model.specs.Programs.{Placed, placed, program_of, with_program, is_running, has_arrived, has_passed, counted}
-use Rattle.fam_model.specs.Same.{same_reply, same_call}
+use Rattle.fam_model.specs.Programs.{program_of, with_program, is_running, has_arrived}
 use Rattle.fam_model.specs.Step.{step, effect}
-use Rattle.fam_model.specs.Text.{Asked, next_call, next_of, is_call, written_out}
-use Rattle.fam_model.specs.Turn.{is_in_turn, call_made}
-use Rattle.fam_schedule.specs.Schedule.{Run, event_of, event_after, first_event, begins, replies_to, went_on, loss}
-use Rattle.fam_schedule.proofs.Options.{bind_some, when_some, map_some, if_some}
-use Rattle.fam_schedule.proofs.Told.{speaks, is_mine, told_as, calls_skip, calls_made, calls_answered}
-use Rattle.fam_schedule.proofs.Moves.{started_after, number_after, Moved, step_moves}
+use Rattle.fam_model.specs.Text.{next_call}
+use Rattle.fam_model.specs.Turn.{is_in_turn}
+use Rattle.fam_schedule.specs.Schedule.{Run, replies_to, went_on}
+use Rattle.fam_schedule.proofs.Options.{bind_some, map_some, if_some}
+use Rattle.fam_schedule.proofs.Told.{is_mine, calls_skip}
+use Rattle.fam_schedule.proofs.Moves.{Moved, step_moves}
 use Rattle.fam_schedule.proofs.Places.{get_set_same}
 use Rattle.fam_schedule.proofs.Follows.{Tells, Settled, Awaits, waits_below}
-use Rattle.fam_schedule.proofs.Comes.{OfProgram, Comes, first_makes}
-use Rattle.fam_schedule.proofs.Runs.{TellsOne, TellsAll, IsReplied, IsBegun, leaves, counted_up, equal, event_of_program, apart_not_mine, silent_not_mine}
-use Rattle.fam_schedule.proofs.Texts.{ends, goes_on}
-use Rattle.fam_schedule.proofs.Rests.{Rests, StepRests, step_rests, standing_after, arrived_after, round_of}
-use Rattle.fam_schedule.proofs.Staying.{IsLow, round_moves, not_arrived, low_higher, passed_not_arrived}
-use Rattle.fam_schedule.proofs.Has.{HasCall, issued_has, piece_has, lose_has}
+use Rattle.fam_schedule.proofs.Rests.{Rests, step_rests, arrived_after, round_of}
+use Rattle.fam_schedule.proofs.Staying.{IsLow, not_arrived, low_higher}
+use Rattle.fam_schedule.proofs.Has.{HasCall, piece_has, lose_has}
 
 -- what holds of a running program by the call that it has started
 abbrev pub RunsBy : Text → List Event → ℕ → ℕ → ProgramState → Started → Type 0
@@ -185,9 +163,10 @@ lose_keeps state next pe c j p q was h there n has =
 -- the program has the same call started, and its calls and the round are as before
 runs_piece : (text : Text) (before later : List Event) (pe round now : ℕ) (p q : ProgramState) (s : Started) → calls later pe ≡ calls before pe → now ≡ round → q.arrived ≡ p.arrived →
     ((n : ℕ) → HasCall p n → HasCall q n) → RunsBy text before pe round p s → RunsBy text later pe now q s
-runs_piece text before later pe round now p q begun.Nothing same round_is arrived keeps (some, not) =
-    (ap (λ rs. is_some (next_call text rs)) (replies_same before later pe same) ∙ some,
-    ap (λ o. is_some_and o (λ at. at == now)) arrived ∙ ap (λ r. has_arrived r p) round_is ∙ not)
+runs_piece text before later pe round now p q begun.Nothing same round_is arrived keeps (some, not) = (
+  ap (λ rs. is_some (next_call text rs)) (replies_same before later pe same) ∙ some,
+  ap (λ o. is_some_and o (λ at. at == now)) arrived ∙ ap (λ r. has_arrived r p) round_is ∙ not,
+)
 runs_piece text before later pe round now p q (begun.Operation c) same round_is arrived keeps (has, not) =
     (keeps c has, ap (λ o. is_some_and o (λ at. at == now)) arrived ∙ ap (λ r. has_arrived r p) round_is ∙ not)
 runs_piece text before later pe round now p q (begun.Barrier c) same round_is arrived keeps (r, e) = (r, arrived ∙ e)
@@ -202,6 +181,6 @@ piece_lives text run event next words pe p q tells live other round local stand 
       count = ap length same ∙ live.count ∙ sym number;
       low = λ r e. (let h : r ≤ run.now.round = live.low r (sym arrived ∙ e) in omega arith);
       runs = λ running.
-      subst (λ s. RunsBy text (run.before ++ event ∷ []) pe next.round q s) (sym started)
-      (runs_piece text run.before (run.before ++ event ∷ []) pe run.now.round next.round p q p.started same round arrived keeps (live.runs (ap is_running (sym stand) ∙ running)));
+          subst (λ s. RunsBy text (run.before ++ event ∷ []) pe next.round q s) (sym started)
+          (runs_piece text run.before (run.before ++ event ∷ []) pe run.now.round next.round p q p.started same round arrived keeps (live.runs (ap is_running (sym stand) ∙ running)));
     }

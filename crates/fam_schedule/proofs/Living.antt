@@ -1,8 +1,7 @@
 -- A step keeps what holds of running programs.
-use Rattle.std.proofs.Common.{◌≡◌, ℕ, ◌+◌, ◌<◌, ◌≤◌, Bool, true, false, List, [], ◌∷◌, ◌++◌, refl, sym, ap, ◌∙◌, arith, subst, inl, inr, length, length-append, append-nil, le_refl}
-use Rattle.std.specs.Prelude.{◌==◌, ◌&&◌, ◌⊎◌, ◌≢◌, Option, Some, None, is_some, slice_get, slice_set, if◌then◌else◌}
+use Rattle.std.proofs.Common.{◌≡◌, ℕ, ◌+◌, ◌≤◌, Bool, true, false, List, [], ◌∷◌, ◌++◌, refl, sym, ap, ◌∙◌, arith, subst, inl, inr, length, length-append, le_refl}
+use Rattle.std.specs.Prelude.{◌==◌, ◌&&◌, ◌⊎◌, ◌≢◌, Option, Some, None, is_some, slice_get}
 use Rattle.std.specs.List.{filter_map, flat_map}
-use Rattle.std.specs.Option.{option_map}
 use Rattle.std.proofs.lemmas.Bool.{eqb-true}
 use Rattle.std.proofs.lemmas.List.Elements.{filter_map-append}
 use Rattle.rand_pcg.specs.Lcg.{Lcg}
@@ -13,7 +12,6 @@ use Rattle.fam_model.specs.declared.call.DataOp.{DataOp}
 use Rattle.fam_model.specs.declared.event.Event.{Event}
 use Rattle.fam_model.specs.declared.event.What.{What}
 use Rattle.fam_model.specs.declared.event.What.TheVariants as what
-use Rattle.fam_model.specs.declared.reply.PieceAnswer.{PieceAnswer}
 use Rattle.fam_model.specs.declared.reply.Reply.{Reply}
 use Rattle.fam_model.specs.declared.reply.Reply.TheVariants as reply
 use Rattle.fam_model.specs.declared.rows.Rows.{Rows}
@@ -28,32 +26,30 @@ use Rattle.fam_model.specs.declared.state.State.{State}
 use Rattle.fam_model.specs.ContextStep.{answer_step, with_nothing_started}
 use Rattle.fam_model.specs.EqualCalls.{equal_calls}
 use Rattle.fam_model.specs.Equals.{equal_replies}
-use Rattle.fam_model.specs.History.{calls, reply_made, answered_with}
+use Rattle.fam_model.specs.History.{calls, reply_made}
 use Rattle.fam_model.specs.Issue.{issue_refusal}
 use Rattle.fam_model.specs.IssueStep.{issue_step, issue_with, accepted}
-use Rattle.fam_model.specs.Limits.{Limits, service_limits}
+use Rattle.fam_model.specs.Limits.{service_limits}
 use Rattle.fam_model.specs.Lists.{◌>>=◌, when, is_some_and}
 use Rattle.fam_model.specs.Operations.{result}
-use Rattle.fam_model.specs.PieceStep.{piece_step, lose_step, memory_by_piece}
-use Rattle.fam_model.specs.Programs.{Placed, placed, program_of, with_program, is_running, has_arrived, has_passed, counted}
+use Rattle.fam_model.specs.Programs.{placed, program_of, with_program, is_running, has_arrived, has_passed, counted}
 use Rattle.fam_model.specs.Shape.{is_shaped}
-use Rattle.fam_model.specs.Same.{same_reply, same_call}
+use Rattle.fam_model.specs.Same.{same_reply}
 use Rattle.fam_model.specs.Step.{step, effect}
-use Rattle.fam_model.specs.Text.{Asked, next_call, next_of, is_call, written_out}
+use Rattle.fam_model.specs.Text.{Asked, next_call, is_call, written_out}
 use Rattle.fam_model.specs.Turn.{is_in_turn, is_next, is_idle, answers_started, call_made}
-use Rattle.fam_schedule.specs.Schedule.{Run, event_of, event_after, first_event, begins, replies_to, went_on, loss}
-use Rattle.fam_schedule.proofs.Options.{bind_some, when_some, map_some, if_some}
-use Rattle.fam_schedule.proofs.Told.{speaks, is_mine, told_as, calls_skip, calls_made, calls_answered}
-use Rattle.fam_schedule.proofs.Moves.{started_after, number_after, Moved, step_moves}
-use Rattle.fam_schedule.proofs.Places.{get_set_same, get_set_other}
-use Rattle.fam_schedule.proofs.Follows.{Tells, Settled, Awaits, waits_below}
-use Rattle.fam_schedule.proofs.Comes.{OfProgram, Comes, first_makes}
+use Rattle.fam_schedule.specs.Schedule.{Run, event_of, event_after, first_event, replies_to, went_on}
+use Rattle.fam_schedule.proofs.Options.{bind_some, when_some, map_some}
+use Rattle.fam_schedule.proofs.Told.{speaks, told_as, calls_made, calls_answered}
+use Rattle.fam_schedule.proofs.Moves.{started_after, number_after, step_moves}
+use Rattle.fam_schedule.proofs.Places.{get_set_other}
+use Rattle.fam_schedule.proofs.Follows.{Tells, Settled, Awaits}
+use Rattle.fam_schedule.proofs.Comes.{Comes, first_makes}
 use Rattle.fam_schedule.proofs.Runs.{TellsOne, TellsAll, IsReplied, IsBegun, leaves, counted_up, equal, event_of_program, apart_not_mine, silent_not_mine, differ}
 use Rattle.fam_schedule.proofs.Texts.{ends, goes_on}
-use Rattle.fam_schedule.proofs.Rests.{Rests, StepRests, step_rests, standing_after, arrived_after, round_of}
-use Rattle.fam_schedule.proofs.Staying.{IsLow, round_moves, not_arrived, low_higher, passed_not_arrived}
-use Rattle.fam_schedule.proofs.Has.{HasCall, issued_has, piece_has, lose_has}
-
+use Rattle.fam_schedule.proofs.Rests.{Rests, step_rests, standing_after, arrived_after, round_of}
+use Rattle.fam_schedule.proofs.Staying.{round_moves, passed_not_arrived}
+use Rattle.fam_schedule.proofs.Has.{HasCall, issued_has}
 use Rattle.fam_schedule.proofs.Lives.{RunsBy, Lives, LivesAll, Own, own_of, other_lives, piece_lives, arrived_low, piece_keeps, lose_keeps, stands_as}
 
 same_some : {A : Type 0} (x y : A) → Some x ≡ Some y → x ≡ y
@@ -217,8 +213,8 @@ answer_lives text run words pe c p q next given own a live not =
       count = longer ∙ sym was ∙ live.count ∙ sym own.moved.number;
       low = λ r e. (let h : r ≤ run.now.round = live.low r (sym own.rests.arrived_is ∙ e) in let same : next.round ≡ run.now.round = own.round in omega arith);
       runs = λ running.
-      subst (λ x. RunsBy text later pe next.round q x) (sym own.moved.started)
-      (ap (λ rs. is_some (next_call text rs)) replies ∙ some, not_arrived_as run.now.round next.round p q own.round own.rests.arrived_is not);
+          subst (λ x. RunsBy text later pe next.round q x) (sym own.moved.started)
+          (ap (λ rs. is_some (next_call text rs)) replies ∙ some, not_arrived_as run.now.round next.round p q own.round own.rests.arrived_is not);
     }
 
 -- the program's next event

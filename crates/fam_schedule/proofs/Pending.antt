@@ -1,24 +1,22 @@
 -- Where nobody may act, no piece is left.
-use Rattle.std.proofs.Common.{◌≡◌, ℕ, ◌+◌, ◌-◌, ◌<◌, ◌≤◌, Bool, true, false, List, [], ◌∷◌, refl, sym, ap, ◌∙◌, arith, subst, suc, zero, get_or}
-use Rattle.std.specs.Prelude.{◌%◌, ◌==◌, ◌&&◌, ◌||◌, not, nat_le, Option, Some, None, All, slice_get, length, map, filter}
-use Rattle.std.specs.List.{list_all, list_any, flat_map, enumerate_from}
-use Rattle.std.specs.Option.{option_map_or}
+use Rattle.std.proofs.Common.{◌≡◌, ℕ, ◌+◌, ◌-◌, ◌<◌, Bool, true, false, List, [], ◌∷◌, refl, sym, ap, ◌∙◌, arith, suc, zero, get_or}
+use Rattle.std.specs.Prelude.{◌%◌, ◌==◌, ◌&&◌, ◌||◌, not, nat_le, Some, slice_get, length, map, filter}
+use Rattle.std.specs.List.{list_all, list_any, enumerate_from}
 use Rattle.std.proofs.lemmas.Bool.{eqb-true}
 use Rattle.std.proofs.lemmas.List.FromFn.{get_or-range_with_len, length-range_with_len}
 use Rattle.std.proofs.lemmas.Option.{slice_get_within, slice_get-get_or}
-use Rattle.fam_model.specs.declared.piece.MarkedPiece.{MarkedPiece}
 use Rattle.fam_model.specs.declared.piece.Operation.{Operation}
 use Rattle.fam_model.specs.declared.script.Script.{Script}
 use Rattle.fam_model.specs.declared.state.Context.{Context}
 use Rattle.fam_model.specs.declared.state.ProgramState.{ProgramState}
 use Rattle.fam_model.specs.EndStep.{has_pending}
-use Rattle.fam_model.specs.Lists.{◌>>=◌, is_some_and, numbers_below, place_of}
+use Rattle.fam_model.specs.Lists.{is_some_and, numbers_below, place_of}
 use Rattle.fam_model.specs.Operations.{is_left, has_left, is_pending, is_served, is_copy_write, is_copy, is_past_fences, has_its_bytes, may_come}
 use Rattle.fam_model.specs.Pieces.{stripe_count}
 use Rattle.fam_model.specs.Programs.{Placed, placed, program_of, call_number, operation_of, has_operation, context_of}
 use Rattle.fam_schedule.specs.Laws.{IsStill}
 use Rattle.fam_schedule.specs.Made.{IsMade, StandsAt, AreMade}
-use Rattle.fam_schedule.specs.Schedule.{Run, PieceName, is_ready, ready_on, ready_of_program, ready_of_call}
+use Rattle.fam_schedule.specs.Schedule.{Run, is_ready, ready_of_program, ready_of_call}
 use Rattle.fam_schedule.proofs.Acting.{all_at, filtered_none, mapped_none, below_at}
 use Rattle.fam_schedule.proofs.Whole.{pair, enumerated}
 use Rattle.fam_schedule.proofs.Finding.{get_zero, get_next, IsFirst, first_of, position_is, any_at_place, flat_none}
@@ -100,7 +98,7 @@ lowest_here o operations left rest =
       there = get_zero o operations;
       left = left;
       lowest = both_true (nat_le o.epoch o.epoch || not (has_left o)) (list_all (λ earlier. nat_le o.epoch earlier.epoch || not (has_left earlier)) operations)
-      (or_left (nat_le o.epoch o.epoch) (not (has_left o)) (le_same o.epoch)) rest;
+          (or_left (nat_le o.epoch o.epoch) (not (has_left o)) (le_same o.epoch)) rest;
     }
 
 lowest_behind : (o : Operation) (operations : List Operation) → (l : IsLowest operations) → (nat_le l.operation.epoch o.epoch || not (has_left o)) ≡ true → IsLowest (o ∷ operations)
@@ -111,7 +109,7 @@ lowest_behind o operations l here =
       there = get_next o operations l.place l.operation l.there;
       left = l.left;
       lowest = both_true (nat_le l.operation.epoch o.epoch || not (has_left o))
-      (list_all (λ earlier. nat_le l.operation.epoch earlier.epoch || not (has_left earlier)) operations) here l.lowest;
+          (list_all (λ earlier. nat_le l.operation.epoch earlier.epoch || not (has_left earlier)) operations) here l.lowest;
     }
 
 lowest_with : (below : Bool) (o : Operation) (operations : List Operation) → (l : IsLowest operations) → has_left o ≡ true → nat_le o.epoch l.operation.epoch ≡ below → IsLowest (o ∷ operations)
@@ -181,7 +179,7 @@ has_at context call h =
     (f.place, f.element, f.there, eqb-true f.element.call call f.passes)
 
 -- an operation that stands somewhere is found there
-placed_there : (stripes : ℕ) (p : ProgramState) (c k : ℕ) (operation : Operation) → AreMade stripes p → (s : StandsAt p c k operation) →
+pub placed_there : (stripes : ℕ) (p : ProgramState) (c k : ℕ) (operation : Operation) → AreMade stripes p → (s : StandsAt p c k operation) →
     placed p operation.call ≡ Some (record { number = c; context = s.context; operation = operation })
 placed_there stripes p c k operation made s =
     let has : has_operation s.context operation.call ≡ true =

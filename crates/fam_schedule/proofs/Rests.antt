@@ -1,11 +1,6 @@
 -- What else a step changes of its program, and the round of the barrier.
-use Rattle.std.proofs.Common.{◌≡◌, ℕ, ◌+◌, ◌<◌, ◌≤◌, Bool, true, false, List, [], ◌∷◌, ◌++◌, refl, sym, ap, ◌∙◌, arith, subst, le_refl, inl, inr, get_or}
-use Rattle.std.specs.Prelude.{◌==◌, ◌&&◌, ◌⊎◌, not, Option, Some, None, is_some, slice_get, slice_set, length, map, if◌then◌else◌}
-use Rattle.std.specs.Option.{option_map}
-use Rattle.std.proofs.lemmas.Bool.{eqb-true, cases_lt}
-use Rattle.std.proofs.lemmas.List.{set_past}
-use Rattle.std.proofs.lemmas.List.Quantifiers.{position-Some}
-use Rattle.std.proofs.lemmas.Option.{get_or_from_slice_get, slice_get-get_or}
+use Rattle.std.proofs.Common.{◌≡◌, ℕ, ◌+◌, Bool, false, refl, sym, ap, ◌∙◌, subst}
+use Rattle.std.specs.Prelude.{◌==◌, ◌&&◌, not, Option, Some, None, slice_get, slice_set, if◌then◌else◌}
 use Rattle.fam_base.specs.declared.naming.Descriptor.{Descriptor}
 use Rattle.fam_base.specs.declared.error.FamError.{FamError}
 use Rattle.fam_model.specs.declared.call.Call.{Call}
@@ -34,19 +29,18 @@ use Rattle.fam_model.specs.ContextStep.{answer_step, open_step, fence_step, quie
 use Rattle.fam_model.specs.Directory.{Memory}
 use Rattle.fam_model.specs.EndStep.{arrive_step, leave_step, crash_step, may_arrive, has_pending}
 use Rattle.fam_model.specs.Issue.{issue_refusal, targets}
-use Rattle.fam_model.specs.IssueStep.{issue_step, issue_with, accepted, with_issued, new_operation}
+use Rattle.fam_model.specs.IssueStep.{issue_step, issue_with, accepted, with_issued}
 use Rattle.fam_model.specs.Limits.{Limits}
-use Rattle.fam_model.specs.Lists.{◌>>=◌, when, place_of}
+use Rattle.fam_model.specs.Lists.{◌>>=◌, when}
 use Rattle.fam_model.specs.MetaStep.{meta_step, may_reply, served_change, changed}
-use Rattle.fam_model.specs.Operations.{has_left, is_pending, is_left, may_come, is_copy, is_unreported, result, report, reported, as_reported}
-use Rattle.fam_model.specs.Pieces.{pieces, stripe_count}
+use Rattle.fam_model.specs.Operations.{has_left, is_pending, is_left, may_come, result, report, reported, as_reported}
+use Rattle.fam_model.specs.Pieces.{pieces}
 use Rattle.fam_model.specs.PieceStep.{piece_step, lose_step, memory_by_piece, may_answer, due_answer, with_answer, without_piece, bytes_found}
-use Rattle.fam_model.specs.Programs.{program_of, with_program, with_member, is_open, open_context, with_context, with_operation, operation_of, context_of, call_number, Placed, placed, with_placed, unreported_copy, counted, filled, fill_region, fill_item, request_of, has_passed, has_crashed, round_after}
+use Rattle.fam_model.specs.Programs.{program_of, with_program, with_member, is_open, open_context, with_context, with_operation, Placed, placed, with_placed, unreported_copy, counted, filled, fill_region, fill_item, request_of, has_passed, has_crashed, round_after}
 use Rattle.fam_model.specs.RefusedStep.{refused_step, would_serve, may_refuse}
 use Rattle.fam_model.specs.Same.{same_reply}
 use Rattle.fam_model.specs.Step.{step, effect}
 use Rattle.fam_model.specs.Turn.{is_in_turn}
-use Rattle.fam_schedule.proofs.Places.{get_set_same}
 use Rattle.fam_schedule.proofs.Options.{bind_some, when_some, map_some, if_some}
 
 -- whether the program still runs

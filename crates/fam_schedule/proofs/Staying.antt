@@ -1,15 +1,12 @@
 -- A call that is started stays where it is; and the barrier between two steps.
-use Rattle.std.proofs.Common.{◌≡◌, ℕ, ◌+◌, ◌<◌, ◌≤◌, Bool, true, false, List, [], ◌∷◌, ◌++◌, refl, sym, ap, ◌∙◌, arith, subst, suc, zero, inl, inr, length, le_refl}
-use Rattle.std.specs.Prelude.{◌==◌, ◌&&◌, ◌||◌, ◌⊎◌, ◌≢◌, not, nat_lt, Option, Some, None, is_some, slice_get, slice_set, position, if◌then◌else◌}
+use Rattle.std.proofs.Common.{◌≡◌, ℕ, ◌+◌, ◌<◌, ◌≤◌, Bool, true, false, List, [], ◌∷◌, refl, sym, ap, ◌∙◌, arith, suc, zero, inl, inr}
+use Rattle.std.specs.Prelude.{◌==◌, ◌&&◌, ◌||◌, ◌⊎◌, not, nat_lt, Option, Some, None, slice_get, slice_set, if◌then◌else◌}
 use Rattle.std.specs.List.{list_all, list_any}
-use Rattle.std.proofs.lemmas.Bool.{eqb-true}
 use Rattle.fam_model.specs.declared.event.What.{What}
 use Rattle.fam_model.specs.declared.event.What.TheVariants as what
-use Rattle.fam_model.specs.declared.piece.Operation.{Operation}
-use Rattle.fam_model.specs.declared.state.Context.{Context}
 use Rattle.fam_model.specs.declared.state.ProgramState.{ProgramState}
 use Rattle.fam_model.specs.declared.state.State.{State}
-use Rattle.fam_model.specs.Lists.{◌>>=◌, is_some_and}
+use Rattle.fam_model.specs.Lists.{is_some_and}
 use Rattle.fam_model.specs.Programs.{is_member, has_arrived, has_passed, is_complete, round_after}
 use Rattle.fam_schedule.proofs.Finding.{get_zero, get_next, get_behind, get_none}
 use Rattle.fam_schedule.proofs.Rests.{round_of}

@@ -1,7 +1,6 @@
 -- Each step of the machine keeps the operations of its program well made.
 use Rattle.std.proofs.Common.{◌≡◌, ℕ, ◌+◌, ◌<◌, ◌≤◌, Bool, true, false, List, [], ◌∷◌, ◌++◌, refl, sym, ap, ◌∙◌, arith, subst, le_refl, inl, inr, get_or}
-use Rattle.std.specs.Prelude.{◌==◌, ◌&&◌, ◌⊎◌, not, Option, Some, None, is_some, slice_get, slice_set, length, map, if◌then◌else◌}
-use Rattle.std.specs.Option.{option_map}
+use Rattle.std.specs.Prelude.{◌==◌, ◌&&◌, ◌⊎◌, not, Option, Some, None, slice_get, slice_set, length, if◌then◌else◌}
 use Rattle.std.proofs.lemmas.Bool.{eqb-true, cases_lt}
 use Rattle.std.proofs.lemmas.List.{set_past}
 use Rattle.std.proofs.lemmas.List.Quantifiers.{position-Some}
@@ -45,9 +44,9 @@ use Rattle.fam_model.specs.RefusedStep.{refused_step, would_serve, may_refuse}
 use Rattle.fam_model.specs.Same.{same_reply}
 use Rattle.fam_model.specs.Step.{step, effect}
 use Rattle.fam_model.specs.Turn.{is_in_turn}
-use Rattle.fam_schedule.specs.Made.{IsMade, StandsAt, AreMade}
+use Rattle.fam_schedule.specs.Made.{IsMade, AreMade}
 use Rattle.fam_schedule.proofs.Options.{bind_some, when_some, map_some, if_some}
-use Rattle.fam_schedule.proofs.Changes.{Grows, KeepsAll, grows_made, grows_same, grows_with, keeps_same, keeps_none, keeps_reported, keeps_operation, found, set_at}
+use Rattle.fam_schedule.proofs.Changes.{Grows, grows_made, grows_same, grows_with, keeps_same, keeps_none, keeps_reported, keeps_operation, found, set_at}
 use Rattle.fam_schedule.proofs.Issued.{is_lawful, issued_made, grows_issued}
 use Rattle.fam_schedule.proofs.Keeps.{made_answered, made_lost, made_reported}
 

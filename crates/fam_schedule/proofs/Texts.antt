@@ -1,12 +1,12 @@
 -- A program's text gives its next call until it has left or crashed.
-use Rattle.std.proofs.Common.{◌≡◌, ℕ, ◌+◌, ◌*◌, ◌<◌, ◌≤◌, Bool, true, false, List, [], ◌∷◌, ◌++◌, refl, sym, ap, ◌∙◌, arith, subst, zero, suc, length, inl, inr, ℤ}
-use Rattle.std.specs.Prelude.{◌&&◌, ◌||◌, ◌⊎◌, not, Option, Some, None, is_some, if◌then◌else◌}
-use Rattle.std.specs.List.{list_all, flat_map, repeat}
+use Rattle.std.proofs.Common.{◌≡◌, ℕ, ◌+◌, ◌<◌, ◌≤◌, Bool, true, false, List, [], ◌∷◌, ◌++◌, refl, sym, ap, ◌∙◌, arith, zero, suc, length, inl, inr, ℤ}
+use Rattle.std.specs.Prelude.{◌&&◌, ◌⊎◌, Option, Some, None, is_some, if◌then◌else◌}
+use Rattle.std.specs.List.{list_all}
 use Rattle.fam_model.specs.declared.call.Call.{Call}
 use Rattle.fam_model.specs.declared.call.Call.TheVariants as call
 use Rattle.fam_model.specs.declared.reply.Reply.{Reply}
 use Rattle.fam_model.specs.Shape.{is_shaped}
-use Rattle.fam_model.specs.Text.{Turn, Once, Until, next_of, after_spin, ends_spin, spun, is_crash}
+use Rattle.fam_model.specs.Text.{Turn, Once, Until, next_of, after_spin, ends_spin, is_crash}
 
 -- the calls that turns may make, spins counted by their tries
 abbrev pub total : List Turn → ℕ
@@ -93,7 +93,7 @@ spin_short (suc tries) value (first ∷ replies) e = by_end (ends_spin value fir
 
 -- texts
 
-first_some : (turns : List Turn) → is_some (next_of turns []) ≡ true
+pub first_some : (turns : List Turn) → is_some (next_of turns []) ≡ true
 first_some [] = refl
 first_some (Once asked ∷ turns) = refl
 first_some (Until asked value zero ∷ turns) = first_some turns
@@ -183,9 +183,11 @@ next_shaped (Until asked value tries ∷ turns) replies due all e = by_spin (aft
     first_true : (a b : Bool) → (a && b) ≡ true → a ≡ true
     first_true true b e = refl
     first_true false b e = cc
+
     second_true : (a b : Bool) → (a && b) ≡ true → b ≡ true
     second_true true b e = e
     second_true false b e = cc
+
     by_spin : (o : Option (List Reply)) → after_spin tries value replies ≡ o →
         ((others : List Reply) → list_all (λ turn. is_shaped (call_of turn)) turns ≡ true → next_of turns others ≡ Some due → is_shaped due ≡ true) → is_shaped due ≡ true
     by_spin (Some others) f rest =

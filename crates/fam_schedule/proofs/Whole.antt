@@ -34,14 +34,14 @@ enumerated n xs k x there =
     slice_get-get_or (enumerate_from n xs) k (pair 0 x) (omega arith)
     ∙ ap Some (get_or-enumerate_from n xs k (pair 0 x) low ∙ ap (pair (n + k)) (get_or_from_slice_get xs k x x there))
 
-opened_program : (local : ℕ) (whos : List Who) (pe : ℕ) (who : Who) → slice_get whos pe ≡ Some who →
+pub opened_program : (local : ℕ) (whos : List Who) (pe : ℕ) (who : Who) → slice_get whos pe ≡ Some who →
     slice_get (map (λ entry. new_program entry.1 (nat_lt entry.0 local)) (enumerate_from 0 whos)) pe ≡ Some (new_program who (nat_lt pe local))
 opened_program local whos pe who there =
     slice_get-map (λ entry. new_program entry.1 (nat_lt entry.0 local)) (enumerate_from 0 whos) pe
     ∙ ap (option_map (λ entry. new_program entry.1 (nat_lt entry.0 local))) (enumerated 0 whos pe who there)
     ∙ (let number : 0 + pe ≡ pe = omega arith in ap (λ k. Some (new_program who (nat_lt k local))) number)
 
-tells_new : (rows : Rows) (script : Script) (seed : ℕ) → TellsAll script (new_run rows script seed)
+pub tells_new : (rows : Rows) (script : Script) (seed : ℕ) → TellsAll script (new_run rows script seed)
 tells_new rows script seed pe text there =
     let whos = map (λ program. program.who) script.programs in
     let who_there : slice_get whos pe ≡ Some text.who = slice_get-map (λ program. program.who) script.programs pe ∙ ap (option_map (λ program. program.who)) there in
@@ -65,7 +65,7 @@ both_true a b e f = rw (e, f) refl
 bind_known : {A B : Type 0} (o : Option A) (x : A) (f : A → Option B) → o ≡ Some x → (o >>= f) ≡ f x
 bind_known o x f e = rw e refl
 
-leads_ends : (script : Script) (run : Run) (history : List Event) (end : Run) → TellsAll script run → LeadsTo script run history end → Ends script run history end
+pub leads_ends : (script : Script) (run : Run) (history : List Event) (end : Run) → TellsAll script run → LeadsTo script run history end → Ends script run history end
 leads_ends script run [] end all leads =
     record {
       tells = subst (TellsAll script) (sym leads) all;

@@ -1,6 +1,6 @@
 //! Laws of the schedule, each the contract of a function that does nothing.
 
-ghost use Rattle.fam_schedule.specs.Laws.{ScheduledHistoriesAreRuns, StopsWhereNobodyMayAct};
+ghost use Rattle.fam_schedule.specs.Laws.{ScheduledHistoriesAreRuns, StopsWhereNobodyMayAct, WholeRunsHaveEnded};
 ghost use Rattle.fam_schedule.specs.Worked.{PiecesComeInAnyOrder, FencesOrder, ContextsReply, CrashesHappen};
 
 /// A history that the schedule gives is one legal run of its script.
@@ -11,6 +11,11 @@ pub fn scheduled_histories_are_runs()
 /// The schedule stops only where nobody may act.
 pub fn stops_where_nobody_may_act()
     ensures { StopsWhereNobodyMayAct }
+{}
+
+/// Where the schedule of a lawful script stops, every program has left or crashed, and no piece is left.
+pub fn whole_runs_have_ended()
+    ensures { WholeRunsHaveEnded }
 {}
 
 /// Pieces of calls that nothing orders come in any order.
