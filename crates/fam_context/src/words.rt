@@ -51,7 +51,11 @@ pub(crate) fn is_left(piece: &MarkedPiece) -> bool
 pub(crate) fn has_left(operation: &Operation) -> bool
     ensures { result ≡ operations.has_left operation.now }
 {
-    operation.pieces.as_slice().iter().any(|piece| is_left(piece))
+    operation
+        .pieces
+        .as_slice()
+        .iter()
+        .any(|piece| is_left(piece))
 }
 
 pub(crate) fn left_count(operation: &Operation) -> u64
@@ -119,7 +123,7 @@ fn has_its_bytes(operation: &Operation, j: usize) -> bool
     }
 }
 
-fn has_left_at(operation: &Operation, j: usize) -> bool
+pub(crate) fn has_left_at(operation: &Operation, j: usize) -> bool
     ensures { result ≡ is_some_and (slice_get operation.now.pieces j) operations.is_left }
 {
     match operation.pieces.get(j) {
