@@ -7,9 +7,14 @@ use Rattle.std.proofs.Math.Seq.{drop-cons}
 use Rattle.fam_base.specs.declared.error.FamError.{FamError}
 use Rattle.fam_model.specs.declared.piece.Operation.{Operation}
 use Rattle.fam_model.specs.declared.reply.Reply.TheVariants as reply
+use Rattle.fam_model.specs.declared.reply.PieceAnswer.TheVariants as answer
+use Rattle.std.proofs.Common.{map, if◌then◌else◌}
+use Rattle.std.specs.Prelude.{filter}
+use Rattle.std.proofs.lemmas.List.{map-append}
+use Rattle.std.proofs.lemmas.List.Elements.{filter-append}
 use Rattle.fam_model.specs.declared.reply.OpResult.{OpResult}
 use Rattle.fam_model.specs.Lists.{when}
-use Rattle.fam_model.specs.Operations.{result_with, served_result, is_unreported}
+use Rattle.fam_model.specs.Operations.{result_with, served_result, outcome_with, served_outcome, is_unreported}
 use Rattle.fam_context.specs.Results.{same_bytes, same_result, same_results, result_of, results_of, past}
 
 and_assoc : (a b c : Bool) → (a && (b && c)) ≡ ((a && b) && c)
@@ -69,3 +74,20 @@ pub same_past : (xs : List Operation) (i : ℕ) (x : Operation) (rest : List OpR
 same_past xs i x rest h e =
     ap (λ ys. same_results rest (results_of ys)) (drop_from xs i x h e)
     ∙ results_test (is_unreported x) x (drop (i + 1) xs) rest refl
+
+-- an outcome by the error of the lowest refused piece
+pub outcome_by_first : (errors : List FamError) (operation : Operation) →
+    outcome_with errors operation ≡ option_map_or answer.Refused (slice_get errors 0) (served_outcome operation.kind operation)
+outcome_by_first [] operation = refl
+outcome_by_first (error ∷ errors) operation = refl
+
+results_one : (b : Bool) (x : Operation) → is_unreported x ≡ b → map result_of (filter is_unreported (x ∷ [])) ≡ (if b then result_of x ∷ [] else [])
+results_one true x e = rw e refl
+results_one false x e = rw e refl
+
+-- the results of a front and the next operation
+results_next : (b : Bool) (xs : List Operation) (x : Operation) → is_unreported x ≡ b →
+    results_of (xs ++ x ∷ []) ≡ results_of xs ++ (if b then result_of x ∷ [] else [])
+results_next b xs x e =
+    ap (map result_of) (filter-append is_unreported xs (x ∷ []))
+    ∙ (map-append result_of (filter is_unreported xs) (filter is_unreported (x ∷ [])) ∙ ap (λ ys. results_of xs ++ ys) (results_one b x e))

@@ -179,3 +179,7 @@ told t call = record t { context = changed t.context call as_reported }
 -- the context once all results were told
 abbrev pub reported : Tracked → Tracked
 reported t = record t { context = all_reported t.context }
+
+-- the context once this piece is out
+abbrev pub posted : Tracked → ℕ → ℕ → Tracked
+posted t call j = record t { out = with_flag t call j true }

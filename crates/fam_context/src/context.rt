@@ -3,6 +3,7 @@
 ghost use Rattle.std.specs.Prelude.{◌≡◌, ◌<◌, ◌+◌, ◌^◌, false, [], map, length, option_copied, option_map, IsTrue, IsFalse, IsSome, IsOk, IfOk, OnOk, OnErr, All, not};
 
 use crate::changes::{add, collect, lose, none_out, planned, report_all, set_flag};
+use crate::words::flag_at;
 use crate::{results, words};
 use fam_base::{NoMemory, Sequence};
 use fam_layout::Plan;
@@ -270,5 +271,44 @@ impl Context {
         ensures { self.new ≡ effects.reported self.old }
     {
         report_all(&mut self.context.operations);
+    }
+
+    /// Whether the piece may come and is not out.
+    pub fn may_post(&self, call: u64, piece: u32) -> bool
+        ensures { result ≡ effects.may_post self.now call piece }
+    {
+        self.may_come(call, piece) && !self.is_out(call, piece)
+    }
+
+    /// Whether the piece is out.
+    fn is_out(&self, call: u64, piece: u32) -> bool
+        ensures { result ≡ effects.is_out self.now call piece }
+    {
+        match words::place_of(&self.context, call) {
+            Some(at) => flag_at(self.out.as_slice(), at, piece as usize),
+            None => false,
+        }
+    }
+
+    /// A piece is posted: it is out from now on.
+    pub fn posted(&mut self, call: u64, piece: u32)
+        requires { IsTrue (effects.may_post self.old call piece) }
+        ensures { self.new ≡ effects.posted self.old call piece }
+    {
+        if let Some(at) = words::place_of(&self.context, call) {
+            set_flag(&mut self.out, at, piece as usize, true);
+        }
+    }
+
+    /// The results of all nonblocking operations that were not reported yet, in order of call. All results are
+    /// then told. After want of memory all is as it was.
+    pub fn report(&mut self) -> Result<Reply, NoMemory>
+        requires { IsFalse (operations.is_pending self.old.context) }
+        ensures ok { IfOk result (λ reply. (reply ≡ operations.report self.old.context) × (self.new ≡ effects.reported self.old)) }
+        ensures err { OnErr result (self.new ≡ self.old) }
+    {
+        let results = results::results_of(self.alloc, self.context.operations.as_slice())?;
+        self.mark_reported();
+        Ok(Reply::Report(results))
     }
 }

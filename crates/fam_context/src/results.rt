@@ -1,6 +1,6 @@
 //! What is told of operations: their results and reports.
 
-ghost use Rattle.std.specs.Prelude.{◌≡◌, slice_index};
+ghost use Rattle.std.specs.Prelude.{◌≡◌, slice_index, IfOk};
 ghost use Rattle.std.specs.List.{flat_map};
 ghost use Rattle.std.specs.Option.{option_copied};
 ghost use Rattle.std.specs.Int.{w32, w64, w128, from_le_bytes};
@@ -9,10 +9,11 @@ ghost use Rattle.fam_model.specs.Operations as operations;
 ghost use Rattle.fam_model.specs.Same.{same_answer, same_reply};
 ghost use Rattle.fam_context.specs.Results.{same_bytes, first_refusal, same_result, same_results, result_of, results_of, past};
 
-use fam_base::FamError;
+use fam_base::{Bytes, FamError, NoMemory, Sequence};
 use fam_model::{
     Context, Mark, MarkedPiece, OpResult, Operation, PieceAnswer, PieceKind, PlanKind, Reply, Width,
 };
+use std::alloc::Global;
 
 fn refusal_in(mark: &Mark) -> Option<FamError>
     ensures { result ≡ operations.refusal_in mark.now }
@@ -243,4 +244,51 @@ pub(crate) fn is_report(context: &Context, given: &Reply) -> bool
         }
         _ => false,
     }
+}
+
+/// The bytes of an operation in the order of its pieces.
+fn all_bytes(alloc: Global, pieces: &[MarkedPiece]) -> Result<Bytes, NoMemory>
+    ensures { IfOk result (λ bytes. bytes ≡ flat_map (λ p. operations.bytes_in p.mark) pieces.now) }
+{
+    let mut bytes = Vec::new(alloc);
+    for piece in pieces {
+        if bytes.extend_from_slice(bytes_in(&piece.mark)).is_err() {
+            return Err(NoMemory);
+        }
+    }
+    Ok(Bytes::from_vec(bytes))
+}
+
+/// What a report says of an operation.
+#[tactic(auto, using(crate::proofs::Telling::outcome_by_first))]
+fn outcome(alloc: Global, operation: &Operation) -> Result<PieceAnswer, NoMemory>
+    ensures { IfOk result (λ answer. answer ≡ operations.outcome operation.now) }
+{
+    if let Some(error) = first_refusal(operation) {
+        return Ok(PieceAnswer::Refused(error));
+    }
+    match operation.kind {
+        PlanKind::Get => {
+            let bytes = all_bytes(alloc, operation.pieces.as_slice())?;
+            Ok(PieceAnswer::Data(bytes))
+        }
+        _ => Ok(PieceAnswer::Ok),
+    }
+}
+
+/// What a report says of these operations.
+pub(crate) fn results_of(alloc: Global, all: &[Operation]) -> Result<Sequence<OpResult>, NoMemory>
+    ensures { IfOk result (λ told. told ≡ results_of all.now) }
+{
+    let mut told = Sequence::new(alloc);
+    for operation in all {
+        if is_unreported(operation) {
+            let answer = outcome(alloc, operation)?;
+            told.push(OpResult {
+                call: operation.call,
+                answer,
+            })?;
+        }
+    }
+    Ok(told)
 }
