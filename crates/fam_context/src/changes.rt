@@ -238,7 +238,14 @@ pub(crate) fn report_all(operations: &mut Sequence<Operation>)
 }
 
 /// None of the pieces counts as done any more.
-pub(crate) fn tell_all(sides: &mut [Side])
+pub(crate) fn tell_each(sides: &mut Vec<Side>)
+    ensures { sides.new.items ≡ map told_side sides.old.items }
+{
+    tell_all(sides.as_mut_slice());
+}
+
+/// The same of a slice.
+fn tell_all(sides: &mut [Side])
     ensures { sides.new ≡ map told_side sides.old }
 {
     for side in sides.iter_mut() {

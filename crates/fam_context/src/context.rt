@@ -2,7 +2,7 @@
 
 ghost use Rattle.std.specs.Prelude.{◌≡◌, ◌<◌, ◌+◌, ◌^◌, false, [], map, length, option_copied, option_map, IsTrue, IsFalse, IsSome, IsOk, IfOk, OnOk, OnErr, All, not};
 
-use crate::changes::{add, collect, fresh, give_result, lose, planned, report_all, tell, tell_all};
+use crate::changes::{add, collect, fresh, give_result, lose, planned, report_all, tell, tell_each};
 use crate::side::{Side, flag_at, recount, set_flag};
 use crate::tracked::Pending;
 use crate::{results, words};
@@ -299,7 +299,7 @@ impl Context {
         ensures { self.new ≡ effects.reported self.old }
     {
         report_all(&mut self.context.operations);
-        tell_all(&mut self.sides);
+        tell_each(&mut self.sides);
         self.pending.done = 0;
     }
 
