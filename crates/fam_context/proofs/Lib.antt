@@ -2,3 +2,4 @@ pub mod Telling
 pub mod Places
 pub mod Counts
 pub mod Kept
+pub mod Searches

@@ -64,7 +64,7 @@ found_first true p xs e = rw zero_lt refl
 found_first false p xs e = rw lt_more (e ∙ found_next (nat_lt (position_or_len p xs) (length xs)) (position_or_len p xs))
 
 -- some element has a number where a place is found
-found_any : {A : Type 0} (p : A → Bool) (xs : List A) → list_any p xs ≡ is_some (position p xs)
+pub found_any : {A : Type 0} (p : A → Bool) (xs : List A) → list_any p xs ≡ is_some (position p xs)
 found_any p [] = refl
 found_any p (x ∷ xs) = found_first (p x) p xs (found_any p xs)
 

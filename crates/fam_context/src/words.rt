@@ -1,26 +1,29 @@
 //! The words of the definitions on operations and contexts.
 
-ghost use Rattle.std.specs.Prelude.{◌≡◌, ◌&&◌, slice_get};
+ghost use Rattle.std.specs.Prelude.{◌≡◌, ◌&&◌, map, slice_get};
 ghost use Rattle.std.specs.Option.{option_copied};
 ghost use Rattle.fam_model.specs.Lists.{place_of, is_some_and};
 ghost use Rattle.fam_model.specs.Operations as operations;
 ghost use Rattle.fam_model.specs.PieceStep.{is_read};
 ghost use Rattle.fam_model.specs.Programs.{call_number, has_operation, operation_of};
 ghost use Rattle.fam_context.specs.Effects.{left_count};
+ghost use Rattle.fam_context.specs.Order.{AreInOrder, frame_of};
 
 use fam_model::{Context, Mark, MarkedPiece, Operation, PieceAnswer, PieceKind, PlanKind};
 
+/// The place of the operation of a call.
 pub(crate) fn place_of(context: &Context, call: u64) -> Option<usize>
+    requires { AreInOrder context.now.epoch (map frame_of context.now.operations) }
     ensures { result ≡ place_of call_number call context.now.operations }
 {
-    context
-        .operations
-        .as_slice()
-        .iter()
-        .position(|operation| operation.call == call)
+    let operations = context.operations.as_slice();
+    operations
+        .binary_search_by_key(&call, |operation| operation.call)
+        .ok()
 }
 
 pub(crate) fn find(context: &Context, call: u64) -> Option<&Operation>
+    requires { AreInOrder context.now.epoch (map frame_of context.now.operations) }
     ensures { option_copied result ≡ operation_of context.now call }
 {
     match place_of(context, call) {
@@ -30,13 +33,10 @@ pub(crate) fn find(context: &Context, call: u64) -> Option<&Operation>
 }
 
 pub(crate) fn has_operation(context: &Context, call: u64) -> bool
+    requires { AreInOrder context.now.epoch (map frame_of context.now.operations) }
     ensures { result ≡ has_operation context.now call }
 {
-    context
-        .operations
-        .as_slice()
-        .iter()
-        .any(|operation| operation.call == call)
+    place_of(context, call).is_some()
 }
 
 pub(crate) fn is_left(piece: &MarkedPiece) -> bool
