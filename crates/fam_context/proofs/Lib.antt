@@ -3,3 +3,4 @@ pub mod Places
 pub mod Counts
 pub mod Kept
 pub mod Searches
+pub mod Nexts

@@ -3,3 +3,4 @@ pub mod Effects
 pub mod Results
 pub mod Counting
 pub mod Sides
+pub mod Next

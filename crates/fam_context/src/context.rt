@@ -1,8 +1,9 @@
 //! A context.
 
-ghost use Rattle.std.specs.Prelude.{◌≡◌, ◌<◌, ◌+◌, ◌^◌, false, [], map, length, option_copied, option_map, IsTrue, IsFalse, IsSome, IsOk, IfOk, OnOk, OnErr, All, not};
+ghost use Rattle.std.specs.Prelude.{◌≡◌, ◌<◌, ◌+◌, ◌^◌, false, [], map, length, option_copied, option_map, IsTrue, IsFalse, IsSome, IsOk, IfOk, OnOk, OnErr, MatchOption, All, not};
 
 use crate::changes::{add, collect, fresh, give_result, lose, planned, report_all, tell, tell_each};
+use crate::next::next_in;
 use crate::side::{Side, flag_at, recount, set_flag};
 use crate::tracked::Pending;
 use crate::{results, words};
@@ -55,6 +56,7 @@ impl Context {
     ghost use Rattle.fam_model.specs.Programs.{call_number, has_operation, operation_of};
     ghost use Rattle.fam_context.specs.Counting.{pending_of};
     ghost use Rattle.fam_context.specs.Effects as effects;
+    ghost use Rattle.fam_context.specs.Next.{NoneOn, IsNextOn};
     ghost use Rattle.fam_context.specs.Order.{IsOrdered, tracked, is_planned_in_turn};
 
     /// An open context at epoch 0, without operations.
@@ -369,5 +371,19 @@ impl Context {
         let reply = give_result(self.alloc, self.context.operations.at_mut(at), side);
         self.pending = recount(self.pending, before, side.counts);
         reply
+    }
+
+    /// The first piece, by call and number, that may come, is not out, and begins on the stripe.
+    pub fn next_on(&self, stripe: u32) -> Option<(u64, u32)>
+        ensures { MatchOption result (NoneOn self.now stripe) (IsNextOn self.now stripe) }
+    {
+        for at in 0..self.sides.len() {
+            let side = &self.sides[at];
+            let operation = self.context.operations.at(at);
+            if let Some(piece) = next_in(&self.context, operation, side, stripe) {
+                return Some((operation.call, piece));
+            }
+        }
+        None
     }
 }

@@ -3,6 +3,7 @@
 
 mod changes;
 mod context;
+mod next;
 mod results;
 mod side;
 mod tracked;
