@@ -1,24 +1,21 @@
 -- Counting the pieces of operations.
-use Rattle.std.proofs.Common.{◌≡◌, ℕ, zero, ◌+◌, ◌-◌, ◌*◌, ◌<◌, ◌≤◌, ◌^◌, Bool, true, false, cond, ◌&&◌, not, List, [], ◌∷◌, map, length, get_or, suc, refl, ap, sym, subst, ◌∙◌, arith, set, min}
-use Rattle.std.specs.Prelude.{slice_get, slice_set, Option, Some, None, sum_by, All}
+use Rattle.std.proofs.Common.{◌≡◌, ℕ, zero, ◌+◌, ◌-◌, ◌*◌, ◌<◌, ◌≤◌, ◌^◌, Bool, true, false, ◌&&◌, not, List, [], ◌∷◌, length, get_or, suc, refl, ap, sym, subst, ◌∙◌, arith}
+use Rattle.std.specs.Prelude.{slice_get, slice_set, Some, sum_by}
 use Rattle.std.specs.List.{zip}
-use Rattle.std.specs.Option.{option_map_or, option_map}
+use Rattle.std.specs.Option.{option_map}
 use Rattle.std.proofs.lemmas.List.{length-set, length-map, map-set}
 use Rattle.std.proofs.lemmas.Slice.Zip.{length-zip}
 use Rattle.fam_model.specs.Operations.{is_left_mark}
-use Rattle.std.proofs.lemmas.List.Sums.{sum_by-set, get_or-le-sum_by, sum_by-le, sum_by-le-sum_by}
-use Rattle.std.proofs.lemmas.Option.{get_or_from_slice_get, slice_get-get_or, slice_get_within, slice_get-map}
+use Rattle.std.proofs.lemmas.List.Sums.{sum_by-set, get_or-le-sum_by, sum_by-le}
+use Rattle.std.proofs.lemmas.Option.{get_or_from_slice_get, slice_get_within, slice_get-map}
 use Rattle.fam_model.specs.declared.piece.Mark.{Mark}
-use Rattle.fam_model.specs.declared.piece.Mark.TheVariants as mark
 use Rattle.fam_model.specs.declared.piece.MarkedPiece.{MarkedPiece}
 use Rattle.fam_model.specs.declared.piece.Operation.{Operation}
-use Rattle.fam_model.specs.Lists.{change_place}
 use Rattle.fam_model.specs.PieceStep.{marked}
 use Rattle.fam_context.specs.declared.tracked.Pending.{Pending}
 use Rattle.fam_context.specs.declared.side.Side.{Side}
 use Rattle.fam_context.specs.Counting.{is_answered_mark, total, share_of, recounted, counts_of, stages_of, marks_of, one_if, Fits}
-use Rattle.fam_context.specs.Effects.{with_mark}
-use Rattle.fam_context.specs.Sides.{IsSideOf, need_of, needed, has_room}
+use Rattle.fam_context.specs.Sides.{IsSideOf, need_of, needed}
 
 -- a sum once one element is another
 sum_replaced : {A : Type 0} (f : A → ℕ) (xs : List A) (k : ℕ) (x y : A) → slice_get xs k ≡ Some x →
@@ -28,7 +25,7 @@ sum_replaced f xs k x y e =
     let same : get_or xs k x ≡ x = get_or_from_slice_get xs k x x e in
     let least : f x ≤ sum_by f xs = subst (λ z. f z ≤ sum_by f xs) same (get_or-le-sum_by f xs k x inside) in
     let moved : sum_by f (slice_set xs k y) + f x ≡ sum_by f xs + f y =
-        subst (λ z. sum_by f (slice_set xs k y) + f z ≡ sum_by f xs + f y) same (sum_by-set f xs k y x inside)
+    subst (λ z. sum_by f (slice_set xs k y) + f z ≡ sum_by f xs + f y) same (sum_by-set f xs k y x inside)
     in
     omega (arith, least, moved)
 
@@ -36,10 +33,10 @@ sum_replaced f xs k x y e =
 pub total_replaced : {A : Type 0} (f : A → Pending) (xs : List A) (k : ℕ) (x y : A) → slice_get xs k ≡ Some x →
     total f (slice_set xs k y) ≡ recounted (total f xs) (f x) (f y)
 total_replaced f xs k x y e = λ i. record {
-    held = sum_replaced (λ z. (f z).held) xs k x y e i;
-    out = sum_replaced (λ z. (f z).out) xs k x y e i;
-    done = sum_replaced (λ z. (f z).done) xs k x y e i;
-  }
+  held = sum_replaced (λ z. (f z).held) xs k x y e i;
+  out = sum_replaced (λ z. (f z).out) xs k x y e i;
+  done = sum_replaced (λ z. (f z).done) xs k x y e i;
+}
 
 -- pairs once one of each list is another
 pub zip-set : {A B : Type 0} (xs : List A) (ys : List B) (k : ℕ) (x : A) (y : B) → zip (slice_set xs k x) (slice_set ys k y) ≡ slice_set (zip xs ys) k (x, y)
@@ -103,7 +100,7 @@ flag_counts operation flags j p was now e h =
     let marks : List Mark = marks_of operation.pieces in
     let there : slice_get marks j ≡ Some p.mark = slice_get-map (λ q. q.mark) operation.pieces j ∙ ap (option_map (λ q. q.mark)) e in
     let stages : zip marks (slice_set flags j now) ≡ slice_set (zip marks flags) j (p.mark, now) =
-        ap (λ ms. zip ms (slice_set flags j now)) (sym (set_itself marks j p.mark there)) ∙ zip-set marks flags j p.mark now
+    ap (λ ms. zip ms (slice_set flags j now)) (sym (set_itself marks j p.mark there)) ∙ zip-set marks flags j p.mark now
     in
     ap (total (share_of operation.reported)) stages
     ∙ total_replaced (share_of operation.reported) (zip marks flags) j (p.mark, was) (p.mark, now) (zip_get marks flags j p.mark was there h)
@@ -116,8 +113,8 @@ mark_counts operation flags j p flag new e h =
     let marks : List Mark = marks_of operation.pieces in
     let there : slice_get marks j ≡ Some p.mark = slice_get-map (λ q. q.mark) operation.pieces j ∙ ap (option_map (λ q. q.mark)) e in
     let stages : zip (marks_of (slice_set operation.pieces j (marked new p))) flags ≡ slice_set (zip marks flags) j (new, flag) =
-        ap (λ ms. zip ms flags) (map-set (λ q. q.mark) operation.pieces j (marked new p))
-        ∙ (ap (λ fs. zip (slice_set marks j new) fs) (sym (set_itself flags j flag h)) ∙ zip-set marks flags j new flag)
+    ap (λ ms. zip ms flags) (map-set (λ q. q.mark) operation.pieces j (marked new p))
+    ∙ (ap (λ fs. zip (slice_set marks j new) fs) (sym (set_itself flags j flag h)) ∙ zip-set marks flags j new flag)
     in
     ap (total (share_of operation.reported)) stages
     ∙ total_replaced (share_of operation.reported) (zip marks flags) j (p.mark, flag) (new, flag) (zip_get marks flags j p.mark flag there h)
@@ -160,7 +157,7 @@ needed_less pieces j q p n there lean h =
     let inside : j < length pieces = slice_get_within pieces j q there in
     let same : get_or pieces j q ≡ q = get_or_from_slice_get pieces j q q there in
     let moved : needed (slice_set pieces j p) + need_of q ≡ needed pieces + need_of p =
-        subst (λ z. needed (slice_set pieces j p) + need_of z ≡ needed pieces + need_of p) same (sum_by-set need_of pieces j p q inside)
+    subst (λ z. needed (slice_set pieces j p) + need_of z ≡ needed pieces + need_of p) same (sum_by-set need_of pieces j p q inside)
     in
     omega (arith, moved, lean, h)
 

@@ -1,8 +1,8 @@
 -- What is kept beside operations, through changes.
-use Rattle.std.proofs.Common.{◌≡◌, ℕ, zero, ◌+◌, ◌-◌, ◌*◌, ◌<◌, ◌≤◌, ◌^◌, Bool, true, false, cond, ◌&&◌, ◌||◌, not, List, [], ◌∷◌, ◌++◌, map, length, get_or, suc, refl, ap, sym, subst, ◌∙◌, arith, replicate}
-use Rattle.std.specs.Prelude.{slice_get, slice_set, Option, Some, None, sum_by, Result, Ok, Err, OnOk, OnErr, All}
+use Rattle.std.proofs.Common.{◌≡◌, ℕ, zero, ◌+◌, ◌*◌, ◌<◌, ◌≤◌, ◌^◌, Bool, true, false, ◌&&◌, ◌||◌, not, List, [], ◌∷◌, ◌++◌, map, length, get_or, suc, refl, ap, sym, subst, ◌∙◌, arith, replicate}
+use Rattle.std.specs.Prelude.{slice_get, slice_set, Some, sum_by, All}
 use Rattle.std.specs.List.{zip, AllZip}
-use Rattle.std.specs.Option.{option_map_or, option_map}
+use Rattle.std.specs.Option.{option_map}
 use Rattle.std.proofs.lemmas.Bool.{false≢true}
 use Rattle.std.proofs.lemmas.List.{length-set, length-map, length-replicate, map-set, map-append}
 use Rattle.std.proofs.lemmas.List.Folds.{sum_by-replicate}
@@ -26,9 +26,9 @@ use Rattle.fam_model.specs.PieceStep.{is_read}
 use Rattle.fam_model.specs.Programs.{call_number}
 use Rattle.fam_context.specs.declared.tracked.Pending.{Pending}
 use Rattle.fam_context.specs.declared.side.Side.{Side}
-use Rattle.fam_context.specs.Counting.{total, share_of, recounted, counts_of, stages_of, marks_of, one_if, Fits, pending_of}
-use Rattle.fam_context.specs.Effects.{changed, issued, posted, told, reported as told_all, with_flag, with_collected, with_lost, planned_operation, with_one_more}
-use Rattle.fam_context.specs.Order.{Frame, frame_of, reads_of, IsOrdered, tracked, is_planned_in_turn}
+use Rattle.fam_context.specs.Counting.{total, share_of, recounted, counts_of, stages_of, marks_of, Fits}
+use Rattle.fam_context.specs.Effects.{changed, issued, posted, told, reported as told_all, with_flag, planned_operation, with_one_more}
+use Rattle.fam_context.specs.Order.{Frame, frame_of, IsOrdered, tracked, is_planned_in_turn}
 use Rattle.fam_context.specs.Sides.{IsSideOf, IsFresh, held_only, told_side, need_of, need_by_mark, needed, has_room, is_get, flags_of, IsKept}
 use Rattle.fam_context.proofs.Counts.{total_replaced, needed_less, set_itself, count_within, length_stages}
 use Rattle.fam_context.proofs.Places.{changed_at, frames_set, frames_reported, ordered_again, ordered_more}
@@ -63,7 +63,7 @@ pub side_same : (operation : Operation) (side : Side) (j : ℕ) (p q : MarkedPie
 side_same operation side j p q kept there mark n =
     let found : get_or operation.pieces j q ≡ q = get_or_from_slice_get operation.pieces j q q there in
     let marks : marks_of (slice_set operation.pieces j p) ≡ marks_of operation.pieces =
-        map-set_same (λ r. r.mark) operation.pieces j p q (mark ∙ ap (λ r. r.mark) (sym found))
+    map-set_same (λ r. r.mark) operation.pieces j p q (mark ∙ ap (λ r. r.mark) (sym found))
     in
     let same : need_of p ≡ need_of q = λ i. need_by_mark (n i) (mark i) in
     record {
@@ -81,16 +81,16 @@ zip_replicate (suc n) x y = ap (λ zs. (x, y) ∷ zs) (zip_replicate n x y)
 pub fresh_counts : (operation : Operation) (count : ℕ) → IsFresh operation count → held_only count ≡ counts_of (operation, replicate count false)
 fresh_counts operation count fresh =
     let stages : stages_of operation (replicate count false) ≡ replicate count (mark.Left, false) =
-        ap (λ ms. zip ms (replicate count false)) fresh.marks ∙ zip_replicate count mark.Left false
+    ap (λ ms. zip ms (replicate count false)) fresh.marks ∙ zip_replicate count mark.Left false
     in
     let held : sum_by (λ (e : Mark × Bool). (share_of false e).held) (replicate count (mark.Left, false)) ≡ count * 1 =
-        sum_by-replicate (λ (e : Mark × Bool). (share_of false e).held) count (mark.Left, false)
+    sum_by-replicate (λ (e : Mark × Bool). (share_of false e).held) count (mark.Left, false)
     in
     let out : sum_by (λ (e : Mark × Bool). (share_of false e).out) (replicate count (mark.Left, false)) ≡ count * 0 =
-        sum_by-replicate (λ (e : Mark × Bool). (share_of false e).out) count (mark.Left, false)
+    sum_by-replicate (λ (e : Mark × Bool). (share_of false e).out) count (mark.Left, false)
     in
     let done : sum_by (λ (e : Mark × Bool). (share_of false e).done) (replicate count (mark.Left, false)) ≡ count * 0 =
-        sum_by-replicate (λ (e : Mark × Bool). (share_of false e).done) count (mark.Left, false)
+    sum_by-replicate (λ (e : Mark × Bool). (share_of false e).done) count (mark.Left, false)
     in
     let counts : total (share_of false) (replicate count (mark.Left, false)) ≡ held_only count = λ i. record {
       held = (let h : sum_by (λ (e : Mark × Bool). (share_of false e).held) (replicate count (mark.Left, false)) ≡ count = omega (arith, held) in h) i;
@@ -143,7 +143,6 @@ all_told (o ∷ operations) (s ∷ sides) all = (side_tell o s all.0, all_told o
 
 -- totals
 
-
 abbrev sizes : List Operation → ℕ
 sizes operations = sum_by (λ frame. length frame.reads) (map frame_of operations)
 
@@ -166,9 +165,10 @@ total_within (o ∷ operations) (s ∷ sides) all =
     let all = sum_by-cons (λ (frame : Frame). length frame.reads) (frame_of o) (map frame_of operations) in
     let h : s.counts.held ≡ (counts_of (o, s.flags)).held = ap (λ p. p.held) kept.counted in
     let u : s.counts.out ≡ (counts_of (o, s.flags)).out = ap (λ p. p.out) kept.counted in
-    let d : s.counts.done ≡ (counts_of (o, s.flags)).done = ap (λ p. p.done) kept.counted in
-    (omega (arith, others.0, within.0, most, reads, held, all, h),
-    (omega (arith, others.1.0, within.1.0, most, reads, out, all, u), omega (arith, others.1.1, within.1.1, most, reads, done, all, d)))
+    let d : s.counts.done ≡ (counts_of (o, s.flags)).done = ap (λ p. p.done) kept.counted in (
+      omega (arith, others.0, within.0, most, reads, held, all, h),
+      (omega (arith, others.1.0, within.1.0, most, reads, out, all, u), omega (arith, others.1.1, within.1.1, most, reads, done, all, d)),
+    )
 
 -- totals of what is kept are those of the operations with their flags
 pub pending_is : (context : Context) (operations : List Operation) (sides : List Side) → AllZip IsSideOf operations sides →
@@ -182,11 +182,11 @@ pending_is context (o ∷ operations) (s ∷ sides) all =
     let rest : List (Operation × List Bool) = zip operations (flags_of sides) in
     λ i. record {
       held = (sum_by-cons (λ (side : Side). side.counts.held) s sides ∙ ((λ k. (kept.counted k).held + (others k).held)
-      ∙ sym (sum_by-cons (λ (e : Operation × List Bool). (counts_of e).held) (o, s.flags) rest))) i;
+          ∙ sym (sum_by-cons (λ (e : Operation × List Bool). (counts_of e).held) (o, s.flags) rest))) i;
       out = (sum_by-cons (λ (side : Side). side.counts.out) s sides ∙ ((λ k. (kept.counted k).out + (others k).out)
-      ∙ sym (sum_by-cons (λ (e : Operation × List Bool). (counts_of e).out) (o, s.flags) rest))) i;
+          ∙ sym (sum_by-cons (λ (e : Operation × List Bool). (counts_of e).out) (o, s.flags) rest))) i;
       done = (sum_by-cons (λ (side : Side). side.counts.done) s sides ∙ ((λ k. (kept.counted k).done + (others k).done)
-      ∙ sym (sum_by-cons (λ (e : Operation × List Bool). (counts_of e).done) (o, s.flags) rest))) i;
+          ∙ sym (sum_by-cons (λ (e : Operation × List Bool). (counts_of e).done) (o, s.flags) rest))) i;
     }
 
 -- one operation of many is another
@@ -211,12 +211,12 @@ pub kept_set : (context : Context) (sides : List Side) (pending after : Pending)
 kept_set context sides pending after pieces k operation next side new kept there beside frame keeps counts =
     let was : IsSideOf operation side = all_zip_at IsSideOf context.operations sides k operation side kept.each there beside in
     let frames : map frame_of (slice_set context.operations k next) ≡ map frame_of context.operations =
-        frames_set context.operations k operation next there frame
+    frames_set context.operations k operation next there frame
     in
     record {
       ordered = ordered_again context (record context { operations = slice_set context.operations k next }) (flags_of sides)
-      (flags_of (slice_set sides k new)) kept.ordered refl frames
-      (lengths_set sides k side new beside (keeps.sized ∙ (same_sizes operation next frame ∙ sym was.sized)));
+          (flags_of (slice_set sides k new)) kept.ordered refl frames
+          (lengths_set sides k side new beside (keeps.sized ∙ (same_sizes operation next frame ∙ sym was.sized)));
       each = all_zip_set IsSideOf context.operations sides k next new kept.each keeps;
       counted = counts ∙ (ap (λ p. recounted p side.counts new.counts) kept.counted ∙ sym (total_replaced (λ (s : Side). s.counts) sides k side new beside));
       sum = kept.sum ∙ ap (λ frames. sum_by (λ frame. length frame.reads) frames) (sym frames);
@@ -228,7 +228,7 @@ pub fits_set : (context : Context) (sides : List Side) (pending : Pending) (piec
     frame_of next ≡ frame_of operation → IsSideOf next new → Fits (recounted pending side.counts new.counts)
 fits_set context sides pending pieces k operation next side new kept small there beside frame keeps =
     let after : IsKept (record context { operations = slice_set context.operations k next }) (slice_set sides k new) (recounted pending side.counts new.counts) pieces =
-        kept_set context sides pending (recounted pending side.counts new.counts) pieces k operation next side new kept there beside frame keeps refl
+    kept_set context sides pending (recounted pending side.counts new.counts) pieces k operation next side new kept there beside frame keeps refl
     in
     let within = total_within (slice_set context.operations k next) (slice_set sides k new) after.each in
     let sum = after.sum in
@@ -281,7 +281,7 @@ pub told_is : (context : Context) (out flags : List (List Bool)) (call k : ℕ) 
     tracked (record context { operations = slice_set context.operations k next }) flags ≡ told (tracked context out) call
 told_is context out flags call k operation next place there e h =
     let p : record context { operations = slice_set context.operations k next } ≡ changed context call as_reported =
-        ap (λ o. record context { operations = slice_set context.operations k o }) e ∙ sym (changed_at context call k operation as_reported place there refl)
+    ap (λ o. record context { operations = slice_set context.operations k o }) e ∙ sym (changed_at context call k operation as_reported place there refl)
     in
     λ i. tracked (p i) (h i)
 
@@ -295,7 +295,7 @@ pub planned_fresh : (operation : Operation) (call epoch : ℕ) (plan : Plan) (bl
     IsFresh operation (length plan.pieces)
 planned_fresh operation call epoch plan blocking e =
     let fresh : IsFresh (planned_operation call epoch plan blocking) (length plan.pieces) =
-        record { pieces = length-map plan.pieces left_piece; marks = marks_planned plan.pieces; reported = refl }
+    record { pieces = length-map plan.pieces left_piece; marks = marks_planned plan.pieces; reported = refl }
     in
     subst (λ o. IsFresh o (length plan.pieces)) (sym e) fresh
 
@@ -309,8 +309,8 @@ kept_more context next sides later pending pieces all call plan blocking operati
     let count : ℕ = length plan.pieces in
     let more : List (List Bool) = flags_of sides ++ replicate count false ∷ [] in
     let path : tracked next (flags_of later) ≡ issued (tracked context (flags_of sides)) call plan blocking =
-        λ i. tracked ((p ∙ ap (with_one_more context) e) i)
-        ((ap flags_of q ∙ (map-append (λ s. s.flags) sides (side ∷ []) ∙ ap (λ fs. flags_of sides ++ fs ∷ []) flags)) i)
+    λ i. tracked ((p ∙ ap (with_one_more context) e) i)
+    ((ap flags_of q ∙ (map-append (λ s. s.flags) sides (side ∷ []) ∙ ap (λ fs. flags_of sides ++ fs ∷ []) flags)) i)
     in
     let operations : next.operations ≡ context.operations ++ operation ∷ [] = ap (λ c. c.operations) p in
     let held : sum_by (λ (s : Side). s.counts.held) (side ∷ []) ≡ count = sum_by-cons (λ (s : Side). s.counts.held) side [] ∙ omega (arith, ap (λ c. c.held) counts) in
@@ -326,23 +326,23 @@ kept_more context next sides later pending pieces all call plan blocking operati
     let uu : pending.out ≡ sum_by (λ (s : Side). s.counts.out) (sides ++ side ∷ []) = omega (arith, out, outs, u) in
     let dd : pending.done ≡ sum_by (λ (s : Side). s.counts.done) (sides ++ side ∷ []) = omega (arith, done, dones, d) in
     let counted : record { held = pending.held + count; out = pending.out; done = pending.done } ≡ total (λ s. s.counts) (sides ++ side ∷ []) =
-        λ i. record { held = hh i; out = uu i; done = dd i }
+    λ i. record { held = hh i; out = uu i; done = dd i }
     in
     let size : sizes (operation ∷ []) ≡ count =
-        sum_by-cons (λ (frame : Frame). length frame.reads) (frame_of operation) []
-        ∙ omega (arith, length-map operation.pieces (λ p. is_read p.piece.kind), (planned_fresh operation call context.epoch plan blocking e).pieces)
+    sum_by-cons (λ (frame : Frame). length frame.reads) (frame_of operation) []
+    ∙ omega (arith, length-map operation.pieces (λ p. is_read p.piece.kind), (planned_fresh operation call context.epoch plan blocking e).pieces)
     in
     let sum_of : sizes (context.operations ++ operation ∷ []) ≡ sizes context.operations + sizes (operation ∷ []) =
-        ap (λ fs. sum_by (λ (frame : Frame). length frame.reads) fs) (map-append frame_of context.operations (operation ∷ []))
-        ∙ sum_by-append (λ (frame : Frame). length frame.reads) (map frame_of context.operations) (frame_of operation ∷ [])
+    ap (λ fs. sum_by (λ (frame : Frame). length frame.reads) fs) (map-append frame_of context.operations (operation ∷ []))
+    ∙ sum_by-append (λ (frame : Frame). length frame.reads) (map frame_of context.operations) (frame_of operation ∷ [])
     in
     let before = kept.sum in
     let whole : all ≡ sizes (context.operations ++ operation ∷ []) = omega (arith, size, sum_of, before, sum) in
     record {
       ordered = subst IsOrdered (sym path) (ordered_more context (flags_of sides) call plan blocking kept.ordered calls turns few);
       each = subst (λ os. AllZip IsSideOf os later) (sym operations)
-      (subst (λ ss. AllZip IsSideOf (context.operations ++ operation ∷ []) ss) (sym q)
-      (all_zipped_more IsSideOf context.operations sides operation side kept.each keeps));
+          (subst (λ ss. AllZip IsSideOf (context.operations ++ operation ∷ []) ss) (sym q)
+          (all_zipped_more IsSideOf context.operations sides operation side kept.each keeps));
       counted = counted ∙ ap (total (λ s. s.counts)) (sym q);
       sum = whole ∙ ap sizes (sym operations);
     }
@@ -362,10 +362,10 @@ sum_map f g (x ∷ xs) = sum_by-cons f (g x) (map g xs) ∙ (ap (λ n. f (g x) +
 -- what is kept once all results were told
 counts_told : (sides : List Side) → total (λ side. side.counts) (map told_side sides) ≡ record (total (λ side. side.counts) sides) { done = 0 }
 counts_told sides = λ i. record {
-    held = sum_map (λ (s : Side). s.counts.held) told_side sides i;
-    out = sum_map (λ (s : Side). s.counts.out) told_side sides i;
-    done = (sum_map (λ (s : Side). s.counts.done) told_side sides ∙ sum_none sides) i;
-  }
+  held = sum_map (λ (s : Side). s.counts.held) told_side sides i;
+  out = sum_map (λ (s : Side). s.counts.out) told_side sides i;
+  done = (sum_map (λ (s : Side). s.counts.done) told_side sides ∙ sum_none sides) i;
+}
 
 flags_told : (sides : List Side) → flags_of (map told_side sides) ≡ flags_of sides
 flags_told [] = refl
@@ -376,13 +376,13 @@ pub kept_told : (context next : Context) (sides later : List Side) (pending : Pe
 kept_told context next sides later pending pieces kept p q =
     let frames : map frame_of (map as_reported context.operations) ≡ map frame_of context.operations = frames_reported context.operations in
     let told : IsKept (reported context) (map told_side sides) (record pending { done = 0 }) pieces =
-        record {
-          ordered = ordered_again context (reported context) (flags_of sides) (flags_of (map told_side sides)) kept.ordered refl frames
+    record {
+      ordered = ordered_again context (reported context) (flags_of sides) (flags_of (map told_side sides)) kept.ordered refl frames
           (ap (map (length {A = Bool})) (flags_told sides));
-          each = all_told context.operations sides kept.each;
-          counted = (λ i. record (kept.counted i) { done = 0 }) ∙ sym (counts_told sides);
-          sum = kept.sum ∙ ap (λ fs. sum_by (λ frame. length frame.reads) fs) (sym frames);
-        }
+      each = all_told context.operations sides kept.each;
+      counted = (λ i. record (kept.counted i) { done = 0 }) ∙ sym (counts_told sides);
+      sum = kept.sum ∙ ap (λ fs. sum_by (λ frame. length frame.reads) fs) (sym frames);
+    }
     in
     subst (λ c. IsKept c later (record pending { done = 0 }) pieces) (sym p)
     (subst (λ ss. IsKept (reported context) ss (record pending { done = 0 }) pieces) (sym q) told)

@@ -1,16 +1,15 @@
 -- The first piece that may be posted to a stripe.
-use Rattle.std.proofs.Common.{◌≡◌, ◌≢◌, ℕ, zero, suc, ◌+◌, ◌<◌, ◌≤◌, Bool, true, false, not, ◌&&◌, ◌⊎◌, inl, inr, List, [], ◌∷◌, map, length, get_or, refl, ap, sym, subst, ◌∙◌, arith}
+use Rattle.std.proofs.Common.{◌≡◌, ℕ, zero, suc, ◌+◌, ◌<◌, ◌≤◌, Bool, true, false, not, ◌&&◌, inl, inr, List, [], ◌∷◌, length, get_or, refl, ap, sym, ◌∙◌, arith}
 use Rattle.std.specs.Prelude.{slice_get, Option, Some, None}
 use Rattle.std.specs.List.{AllPairs, AllZip}
 use Rattle.std.specs.Option.{option_map}
 use Rattle.std.proofs.lemmas.Bool.{false≢true, cases_lt}
-use Rattle.std.proofs.lemmas.Option.{get_or_from_slice_get, slice_get-get_or, slice_get_within, slice_get-map}
-use Rattle.std.proofs.lemmas.List.Quantifiers.{position-Some}
+use Rattle.std.proofs.lemmas.Option.{get_or_from_slice_get, slice_get_within, slice_get-map}
 use Rattle.fam_model.specs.declared.piece.Operation.{Operation}
 use Rattle.fam_model.specs.declared.state.Context.{Context}
-use Rattle.fam_model.specs.Lists.{place_of, is_some_and}
+use Rattle.fam_model.specs.Lists.{place_of}
 use Rattle.fam_model.specs.Operations.{may_come}
-use Rattle.fam_model.specs.Programs.{call_number, operation_of}
+use Rattle.fam_model.specs.Programs.{call_number}
 use Rattle.fam_context.specs.declared.side.Side.{Side}
 use Rattle.fam_context.specs.Effects.{may_post}
 use Rattle.fam_context.specs.Next.{lies_at, lies_on, flag_in, posts_on, NoneOn, IsNextOn}
@@ -32,14 +31,16 @@ pub none_more : (context : Context) (sides : List Side) (stripe at : ℕ) (opera
     slice_get context.operations at ≡ Some operation → slice_get sides at ≡ Some side →
     ((j : ℕ) → posts_on context operation side.flags stripe j ≡ false) → NoneBefore context sides stripe (at + 1)
 none_more context sides stripe at operation side before there beside none =
-    record { none = λ k j o s h e g. elim (cases_lt k at) [
-      | inl less ↦ before.none k j o s less e g
-      | inr more ↦
-          let same : k ≡ at = omega arith in
-          let p : o ≡ operation = (let q : slice_get context.operations k ≡ Some operation = ap (slice_get context.operations) same ∙ there in cc) in
-          let r : s ≡ side = (let q : slice_get sides k ≡ Some side = ap (slice_get sides) same ∙ beside in cc) in
-          (λ i. posts_on context (p i) (r i).flags stripe j) ∙ none j
-    ] }
+    record {
+      none = λ k j o s h e g. elim (cases_lt k at) [
+        | inl less ↦ before.none k j o s less e g
+        | inr more ↦
+            let same : k ≡ at = omega arith in
+            let p : o ≡ operation = (let q : slice_get context.operations k ≡ Some operation = ap (slice_get context.operations) same ∙ there in cc) in
+            let r : s ≡ side = (let q : slice_get sides k ≡ Some side = ap (slice_get sides) same ∙ beside in cc) in
+            (λ i. posts_on context (p i) (r i).flags stripe j) ∙ none j
+      ];
+    }
 
 -- what a piece that may be posted is, by the place of its operation
 post_at : (context : Context) (sides : List Side) (stripe call j k : ℕ) (operation : Operation) (side : Side) →
@@ -129,7 +130,7 @@ next_is context sides stripe at j operation side all rise before there beside po
     let inside : at < length context.operations = slice_get_within context.operations at operation there in
     let found : get_or context.operations at operation ≡ operation = get_or_from_slice_get context.operations at operation operation there in
     let place : place_of call_number operation.call context.operations ≡ Some at =
-        place_at call_number context.operations rise operation.call at operation inside (ap (λ o. o.call) found)
+    place_at call_number context.operations rise operation.call at operation inside (ap (λ o. o.call) found)
     in
     let split = parts (may_come context operation j) (flag_in side.flags j) (lies_at operation stripe j) posts in
     record {
@@ -144,25 +145,28 @@ next_is context sides stripe at j operation side all rise before there beside po
           elim (cases_lt other.k at) [
             | inl less ↦ absurd (false≢true (sym (before.none other.k i other.operation other.side less other.there other.beside) ∙ does))
             | inr more ↦ elim (cases_lt at other.k) [
-                | inl above ↦
-                    let within : other.k < length context.operations = slice_get_within context.operations other.k other.operation other.there in
-                    let up = rise at other.k operation above within in
-                    let that : get_or context.operations other.k operation ≡ other.operation =
-                        get_or_from_slice_get context.operations other.k other.operation operation other.there
-                    in
-                    inl (let a : (get_or context.operations at operation).call ≡ operation.call = ap (λ o. o.call) found in
-                    let b : (get_or context.operations other.k operation).call ≡ other.operation.call = ap (λ o. o.call) that in
-                    omega (arith, up, a, b, number))
-                | inr below ↦
-                    let same : other.k ≡ at = omega arith in
-                    let p : other.operation ≡ operation = (let q : slice_get context.operations other.k ≡ Some operation = ap (slice_get context.operations) same ∙ there in
-                    let r = other.there in cc) in
-                    let s : other.side ≡ side = (let q : slice_get sides other.k ≡ Some side = ap (slice_get sides) same ∙ beside in let r = other.beside in cc) in
-                    let here : posts_on context operation side.flags stripe i ≡ true = sym (λ n. posts_on context (p n) (s n).flags stripe i) ∙ does in
-                    inr (ap (λ o. o.call) (sym p) ∙ number, elim (cases_lt i j) [
+              | inl above ↦
+                  let within : other.k < length context.operations = slice_get_within context.operations other.k other.operation other.there in
+                  let up = rise at other.k operation above within in
+                  let that : get_or context.operations other.k operation ≡ other.operation =
+                  get_or_from_slice_get context.operations other.k other.operation operation other.there
+                  in
+                  inl (let a : (get_or context.operations at operation).call ≡ operation.call = ap (λ o. o.call) found in
+                  let b : (get_or context.operations other.k operation).call ≡ other.operation.call = ap (λ o. o.call) that in
+                  omega (arith, up, a, b, number))
+              | inr below ↦
+                  let same : other.k ≡ at = omega arith in
+                  let p : other.operation ≡ operation = (let q : slice_get context.operations other.k ≡ Some operation = ap (slice_get context.operations) same ∙ there in
+                  let r = other.there in cc) in
+                  let s : other.side ≡ side = (let q : slice_get sides other.k ≡ Some side = ap (slice_get sides) same ∙ beside in let r = other.beside in cc) in
+                  let here : posts_on context operation side.flags stripe i ≡ true = sym (λ n. posts_on context (p n) (s n).flags stripe i) ∙ does in
+                  inr (
+                    ap (λ o. o.call) (sym p) ∙ number,
+                    elim (cases_lt i j) [
                       | inl smaller ↦ absurd (false≢true (sym (least i smaller) ∙ here))
                       | inr larger ↦ larger
-                    ])
-              ]
+                    ],
+                  )
+            ]
           ];
     }

@@ -1,5 +1,5 @@
 -- How many pieces are held, out and done.
-use Rattle.std.specs.Prelude.{◌≡◌, ℕ, ◌+◌, ◌-◌, ◌<◌, ◌^◌, Bool, true, false, not, cond, ◌&&◌, List, map, length, sum_by}
+use Rattle.std.specs.Prelude.{ℕ, ◌+◌, ◌-◌, ◌<◌, ◌^◌, Bool, true, false, not, cond, ◌&&◌, List, map, sum_by}
 use Rattle.std.specs.List.{zip}
 use Rattle.fam_model.specs.declared.piece.Mark.{Mark}
 use Rattle.fam_model.specs.declared.piece.Mark.TheVariants as mark

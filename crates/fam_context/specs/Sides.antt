@@ -7,7 +7,6 @@ use Rattle.fam_model.specs.declared.piece.MarkedPiece.{MarkedPiece}
 use Rattle.fam_model.specs.declared.piece.Operation.{Operation}
 use Rattle.fam_model.specs.declared.piece.PlanKind.{PlanKind}
 use Rattle.fam_model.specs.declared.piece.PlanKind.TheVariants as plan
-use Rattle.fam_model.specs.declared.reply.PieceAnswer.{PieceAnswer}
 use Rattle.fam_model.specs.declared.reply.PieceAnswer.TheVariants as answer
 use Rattle.fam_model.specs.declared.state.Context.{Context}
 use Rattle.fam_context.specs.declared.tracked.Pending.{Pending}

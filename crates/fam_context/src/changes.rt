@@ -80,8 +80,14 @@ fn hand_over(
             give(operation, side, j + 1, bytes);
         }
         PieceAnswer::Refused(error) => {
-            set_mark(operation, side, j, Mark::Answered(PieceAnswer::Refused(error)));
-            set_mark(operation, side, j + 1, Mark::Gone);
+            set_mark(
+                operation,
+                side,
+                j,
+                Mark::Answered(PieceAnswer::Refused(error)),
+            );
+            let write = j + 1;
+            set_mark(operation, side, write, Mark::Gone);
         }
     }
 }

@@ -1,8 +1,11 @@
 //! A context.
 
-ghost use Rattle.std.specs.Prelude.{◌≡◌, ◌<◌, ◌+◌, ◌^◌, false, [], map, length, option_copied, option_map, IsTrue, IsFalse, IsSome, IsOk, IfOk, OnOk, OnErr, MatchOption, All, not};
+ghost use Rattle.std.specs.List.{list_all};
+ghost use Rattle.std.specs.Prelude.{◌≡◌, ◌&&◌, nat_lt, ◌<◌, ◌+◌, ◌^◌, false, [], map, length, option_copied, option_map, IsTrue, IsFalse, IsSome, IsOk, IfOk, OnOk, OnErr, MatchOption, All, not};
 
-use crate::changes::{add, collect, fresh, give_result, lose, planned, report_all, tell, tell_each};
+use crate::changes::{
+    add, collect, fresh, give_result, lose, planned, report_all, tell, tell_each,
+};
 use crate::next::next_in;
 use crate::side::{Side, flag_at, recount, set_flag};
 use crate::tracked::Pending;
@@ -250,6 +253,39 @@ impl Context {
         self.pieces = pieces;
         self.pending.held += count as u64;
         Ok(())
+    }
+
+    /// Whether the call comes after those of all operations, and the plan, if it is a copy, reads and writes in
+    /// turn. It looks at all operations: for callers that do not know.
+    pub fn may_issue(&self, call: u64, plan: &Plan) -> bool
+        ensures { result ≡ (list_all (λ operation. nat_lt operation.call call) self.now.context.operations && is_planned_in_turn plan.now) }
+    {
+        words::are_before(&self.context, call) && words::is_in_turn(plan)
+    }
+
+    /// Whether the piece is left and may have this answer: a refusal, or just so many bytes as it has for a
+    /// read and a fetching atomic, or `Ok` for any other piece.
+    pub fn may_collect(&self, call: u64, piece: u32, answer: &PieceAnswer) -> bool
+        ensures { result ≡ effects.may_collect self.now.context call piece answer.now }
+    {
+        match words::find(&self.context, call) {
+            Some(operation) => words::may_answer(operation, piece as usize, answer),
+            None => false,
+        }
+    }
+
+    /// Whether the operation is blocking or a copy, has no piece left, and its result was not told.
+    pub fn may_tell(&self, call: u64) -> bool
+        ensures { result ≡ effects.may_tell self.now.context call }
+    {
+        match words::find(&self.context, call) {
+            Some(operation) => {
+                !operation.reported
+                    && (operation.blocking || words::is_copy(operation.kind))
+                    && !words::has_left(operation)
+            }
+            None => false,
+        }
     }
 
     /// A piece is answered. A copy's read is answered with the bytes that it read: it is then done, and its

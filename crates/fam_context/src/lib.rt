@@ -6,6 +6,8 @@ mod context;
 mod next;
 mod results;
 mod side;
+#[cfg(test)]
+mod tests;
 mod tracked;
 mod words;
 

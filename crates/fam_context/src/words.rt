@@ -1,15 +1,19 @@
 //! The words of the definitions on operations and contexts.
 
-ghost use Rattle.std.specs.Prelude.{◌≡◌, ◌&&◌, map, slice_get};
+ghost use Rattle.std.specs.Prelude.{◌≡◌, ◌&&◌, map, nat_lt, slice_get};
+ghost use Rattle.std.specs.List.{list_all};
 ghost use Rattle.std.specs.Option.{option_copied};
 ghost use Rattle.fam_model.specs.Lists.{place_of, is_some_and};
 ghost use Rattle.fam_model.specs.Operations as operations;
 ghost use Rattle.fam_model.specs.PieceStep.{is_read};
 ghost use Rattle.fam_model.specs.Programs.{call_number, has_operation, operation_of};
-ghost use Rattle.fam_context.specs.Effects.{left_count};
-ghost use Rattle.fam_context.specs.Order.{AreInOrder, frame_of};
+ghost use Rattle.fam_context.specs.Effects.{left_count, gives_bytes, is_answer_of, may_answer};
+ghost use Rattle.fam_context.specs.Order.{AreInOrder, frame_of, are_in_turn, is_planned_in_turn};
 
-use fam_model::{Context, Mark, MarkedPiece, Operation, PieceAnswer, PieceKind, PlanKind};
+use fam_layout::Plan;
+use fam_model::{
+    Context, Mark, MarkedPiece, Operation, PieceAnswer, PieceKind, PlanKind, PlanPiece,
+};
 
 /// The place of the operation of a call.
 pub(crate) fn place_of(context: &Context, call: u64) -> Option<usize>
@@ -145,5 +149,75 @@ pub(crate) fn is_copy_read(plan: PlanKind, kind: PieceKind) -> bool
     match kind {
         PieceKind::Read => is_copy(plan),
         _ => false,
+    }
+}
+
+pub(crate) fn are_before(context: &Context, call: u64) -> bool
+    ensures { result ≡ list_all (λ operation. nat_lt operation.call call) context.now.operations }
+{
+    context
+        .operations
+        .as_slice()
+        .iter()
+        .all(|operation| operation.call < call)
+}
+
+fn is_read(kind: PieceKind) -> bool
+    ensures { result ≡ is_read kind }
+{
+    match kind {
+        PieceKind::Read => true,
+        _ => false,
+    }
+}
+
+/// Whether the pieces are a read and a write in turn.
+fn are_in_turn(pieces: &[PlanPiece]) -> bool
+    ensures { result ≡ are_in_turn (map (λ p. is_read p.kind) pieces.now) }
+{
+    let mut rest = pieces;
+    while let [first, second, others @ ..] = rest {
+        if !is_read(first.kind) || is_read(second.kind) {
+            return false;
+        }
+        rest = others;
+    }
+    rest.is_empty()
+}
+
+pub(crate) fn is_in_turn(plan: &Plan) -> bool
+    ensures { result ≡ is_planned_in_turn plan.now }
+{
+    !is_copy(plan.kind) || are_in_turn(plan.pieces.as_slice())
+}
+
+fn gives_bytes(plan: PlanKind, kind: PieceKind) -> bool
+    ensures { result ≡ gives_bytes plan kind }
+{
+    match (plan, kind) {
+        (_, PieceKind::Read) => true,
+        (PlanKind::Fetch, PieceKind::Atomic { .. }) => true,
+        _ => false,
+    }
+}
+
+fn is_answer_of(plan: PlanKind, piece: &PlanPiece, answer: &PieceAnswer) -> bool
+    ensures { result ≡ is_answer_of plan piece.now answer.now }
+{
+    match answer {
+        PieceAnswer::Ok => !gives_bytes(plan, piece.kind),
+        PieceAnswer::Data(bytes) => {
+            gives_bytes(plan, piece.kind) && bytes.len() as u64 == piece.n
+        }
+        PieceAnswer::Refused(_) => true,
+    }
+}
+
+pub(crate) fn may_answer(operation: &Operation, j: usize, answer: &PieceAnswer) -> bool
+    ensures { result ≡ may_answer operation.now j answer.now }
+{
+    match operation.pieces.get(j) {
+        Some(p) => is_left(p) && is_answer_of(operation.kind, &p.piece, answer),
+        None => false,
     }
 }

@@ -1,6 +1,5 @@
-use Rattle.std.proofs.Common.{◌≡◌, ◌∙◌, refl, ap, sym}
+use Rattle.std.proofs.Common.{◌≡◌, ◌∙◌, refl, ap}
 use Rattle.fam_context.specs.Counting.{share_of}
-use Rattle.fam_model.specs.declared.piece.MarkedPiece.{MarkedPiece}
 use Rattle.fam_model.specs.PieceStep.{marked}
 use Rattle.fam_context.proofs.Counts.{mark_recounts, fits_mark, side_mark, same_found}
 use Rattle.fam_context.proofs.side.set_mark.Goals as goal
@@ -14,7 +13,7 @@ recount-side-requires c =
 pub returns-then-j-len-clause-kept : goal.returns-then-j-len-clause-kept
 returns-then-j-len-clause-kept c =
     let same : c.at.result.now ≡ c.at_mut.result.now =
-        same_found c.args.operation.now.pieces c.args.j c.at.result.now c.at_mut.result.now c.at.ensures c.at_mut.ensures.value
+    same_found c.args.operation.now.pieces c.args.j c.at.result.now c.at_mut.result.now c.at.ensures c.at_mut.ensures.value
     in
     side_mark c.args.operation.now c.args.side.now _ c.args.j (marked c.args.mark c.at_mut.result.now) c.at_mut.result.now c.requires.kept
     c.at_mut.ensures.value (c.requires.lean c.at_mut.result.now c.at_mut.ensures.value) refl refl

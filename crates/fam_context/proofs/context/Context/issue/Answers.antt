@@ -10,7 +10,7 @@ fresh-requires-clause-fresh c =
 pub overflow_add-self : goal.overflow_add-self
 overflow_add-self c =
     let held : c.self.inside.pending.held ≤ c.self.inside.pieces =
-        held_within c.self.inside.context c.self.inside.sides.items c.self.inside.pending c.self.inside.pieces c.self.invariant
+    held_within c.self.inside.context c.self.inside.sides.items c.self.inside.pending c.self.inside.pieces c.self.invariant
     in
     let sum : c.in-Some.pieces ≡ c.self.inside.pieces + c.len-count.result = search rules in
     omega (arith, held, sum)

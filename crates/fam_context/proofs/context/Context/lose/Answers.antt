@@ -1,5 +1,4 @@
-use Rattle.std.proofs.Common.{rules, ap, ◌∙◌, ◌≡◌, false}
-use Rattle.std.specs.Prelude.{slice_get, Some}
+use Rattle.std.proofs.Common.{rules, ap, ◌∙◌, false}
 use Rattle.fam_model.specs.Lists.{change_place}
 use Rattle.fam_context.specs.Order.{frame_of}
 use Rattle.fam_context.specs.Sides.{flags_of}

@@ -1,4 +1,4 @@
-use Rattle.std.proofs.Common.{rules, refl, ap}
+use Rattle.std.proofs.Common.{rules, ap}
 use Rattle.fam_context.specs.Order.{frame_of}
 use Rattle.fam_context.specs.Sides.{IsSideOf, flags_of}
 use Rattle.fam_context.proofs.Kept.{all_zip_at, side_there, kept_set, fits_set, flags_same, told_is}

@@ -1,5 +1,3 @@
-use Rattle.std.proofs.Common.{rules, ap}
-use Rattle.fam_model.specs.declared.state.Context.{Context}
 use Rattle.fam_context.proofs.Kept.{kept_told, reported_is}
 use Rattle.fam_context.proofs.context.Context.mark_reported.Goals as goal
 

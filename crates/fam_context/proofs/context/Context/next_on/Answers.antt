@@ -1,4 +1,4 @@
-use Rattle.std.proofs.Common.{rules, arith, length, ◌≤◌}
+use Rattle.std.proofs.Common.{rules, length, ◌≤◌}
 use Rattle.fam_context.specs.Sides.{IsSideOf}
 use Rattle.fam_context.proofs.Kept.{all_zip_at, side_there}
 use Rattle.fam_context.proofs.Nexts.{none_first, none_more, none_on, next_is}

@@ -1,4 +1,4 @@
-use Rattle.std.proofs.Common.{rules, refl, true}
+use Rattle.std.proofs.Common.{rules, true}
 use Rattle.fam_model.specs.Lists.{change_place}
 use Rattle.fam_context.specs.Sides.{IsSideOf, flags_of}
 use Rattle.fam_context.proofs.Kept.{all_zip_at, side_there, kept_side, fits_side, flags_set, posted_is}
