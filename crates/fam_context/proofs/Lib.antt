@@ -1,0 +1,6 @@
+pub mod Telling
+pub mod Places
+pub mod Counts
+pub mod Kept
+pub mod Searches
+pub mod Nexts

@@ -1,0 +1,6 @@
+pub mod Order
+pub mod Effects
+pub mod Results
+pub mod Counting
+pub mod Sides
+pub mod Next

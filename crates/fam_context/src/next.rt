@@ -1,0 +1,46 @@
+//! Which piece comes next on a stripe.
+
+ghost use Rattle.std.specs.Prelude.{◌≡◌, ℕ, ◌<◌, true, false, MatchOption, slice_get};
+ghost use Rattle.fam_model.specs.Lists.{is_some_and};
+ghost use Rattle.fam_context.specs.Next.{lies_at, posts_on};
+ghost use Rattle.fam_context.specs.Sides.{IsSideOf};
+
+use crate::side::Side;
+use crate::words::may_come;
+use fam_model::{Context, Operation};
+
+fn lies_at(operation: &Operation, stripe: u32, j: usize) -> bool
+    ensures { result ≡ lies_at operation.now stripe j }
+{
+    match operation.pieces.get(j) {
+        Some(marked) => marked.piece.place.stripe == stripe,
+        None => false,
+    }
+}
+
+fn is_out(side: &Side, j: usize) -> bool
+    ensures { result ≡ is_some_and (slice_get side.now.flags j) (λ flag. flag) }
+{
+    match side.flags.get(j) {
+        Some(flag) => *flag,
+        None => false,
+    }
+}
+
+/// The first piece of the operation that may be posted to the stripe.
+pub(crate) fn next_in(
+    context: &Context,
+    operation: &Operation,
+    side: &Side,
+    stripe: u32,
+) -> Option<u32>
+    requires { IsSideOf operation.now side.now }
+    ensures { MatchOption result ((j : ℕ) → posts_on context.now operation.now side.now.flags stripe j ≡ false) (λ j. (posts_on context.now operation.now side.now.flags stripe j ≡ true) × ((i : ℕ) → i < j → posts_on context.now operation.now side.now.flags stripe i ≡ false)) }
+{
+    for j in 0..operation.pieces.len() {
+        if lies_at(operation, stripe, j) && !is_out(side, j) && may_come(context, operation, j) {
+            return Some(j as u32);
+        }
+    }
+    None
+}
