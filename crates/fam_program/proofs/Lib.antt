@@ -5,3 +5,4 @@ pub mod Opening
 pub mod Parts
 pub mod Issuing
 pub mod Reporting
+pub mod Telling

@@ -2,6 +2,7 @@
 
 ghost use Rattle.std.specs.Prelude.{◌≡◌, ◌<◌, IfOk};
 
+mod answers;
 mod contexts;
 mod ends;
 mod issue;
