@@ -6,3 +6,4 @@ pub mod Parts
 pub mod Issuing
 pub mod Reporting
 pub mod Telling
+pub mod Waiting

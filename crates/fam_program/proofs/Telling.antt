@@ -44,7 +44,7 @@ all_or_any [] = refl
 all_or_any (x ∷ xs) =
     ap (λ (b : Bool). eqb (cond (is_left x) 1 0) 0 && b) (all_or_any xs) ∙ one (is_left x) (list_any is_left xs)
 
-none_left : (xs : List MarkedPiece) → (count_by is_left xs == 0) ≡ not (list_any is_left xs)
+pub none_left : (xs : List MarkedPiece) → (count_by is_left xs == 0) ≡ not (list_any is_left xs)
 none_left xs = sum_by-zero (λ x. cond (is_left x) 1 0) xs ∙ all_or_any xs
 
 -- the operation of a call has its number
@@ -114,7 +114,7 @@ held_is (started.Operation call) p ts e h = placed_place p ts call e h
 -- contexts once a result is told
 
 -- an operation that is told, where nothing is started any more
-told_within : (n : ℕ) (begun : Started) → is_idle begun ≡ true → (call : ℕ) (t : Tracked) → IsWithin n begun t.context → IsWithin n begun (effects.told t call).context
+pub told_within : (n : ℕ) (begun : Started) → is_idle begun ≡ true → (call : ℕ) (t : Tracked) → IsWithin n begun t.context → IsWithin n begun (effects.told t call).context
 told_within n begun idle call t h = of_found (operation_of t.context call) refl where
   of_found : (o : Option Operation) → operation_of t.context call ≡ o → IsWithin n begun (option_map_or (λ operation. with_operation t.context (as_reported operation)) o t.context)
   of_found None e = h

@@ -1,5 +1,7 @@
 -- How a call that steps is told from one that does not.
 use Rattle.std.specs.Prelude.{◌≡◌, ℕ, Bool, true, false, Option, Some, None, is_some}
+use Rattle.fam_model.specs.declared.call.Call.{Call}
+use Rattle.fam_model.specs.declared.call.Call.TheVariants as call
 use Rattle.fam_model.specs.declared.reply.Reply.{Reply}
 use Rattle.fam_model.specs.declared.state.ProgramState.{ProgramState}
 use Rattle.fam_model.specs.ContextStep.{answer_step, quiet_step, close_step, wait_step}
@@ -27,3 +29,8 @@ Finishes old new =
 -- the program after waiting for a copy of the context, with whichever reply that is
 abbrev pub Waits : ProgramState → ℕ → ℕ → ProgramState → Type 0
 Waits old c named new = (given : Reply) → is_some (wait_step old c named given) ≡ true → wait_step old c named given ≡ Some new
+
+-- any call but a data call
+abbrev pub is_no_data : Call → Bool
+is_no_data (call.Data context op blocking) = false
+is_no_data _ = true

@@ -4,6 +4,7 @@ ghost use Rattle.std.specs.Prelude.{◌≡◌, ◌<◌, Some, length, option_cop
 ghost use Rattle.fam_context.specs.Effects as effects;
 ghost use Rattle.fam_model.specs.Lists.{is_some_and};
 ghost use Rattle.fam_model.specs.Lists.{change_place};
+ghost use Rattle.fam_model.specs.Programs.{has_operation};
 ghost use Rattle.fam_program.specs.Parts.{place_in, holder_in};
 ghost use Rattle.fam_program.specs.Reports as reports;
 
@@ -141,4 +142,23 @@ pub(crate) fn tell_started(contexts: &mut Sequence<Context>, started: Started)
         Started::Operation { call } => tell_operation(contexts, call),
         Started::Nothing | Started::Barrier { .. } => {}
     }
+}
+
+/// Whether the context has a copy of that call whose result was not told.
+pub(crate) fn has_copy(contexts: &Sequence<Context>, at: usize, call: u64) -> bool
+    ensures { result ≡ is_some_and (slice_get contexts.now at) (λ t. effects.is_copy_of t.context call) }
+{
+    match contexts.get(at) {
+        Some(context) => context.is_copy(call),
+        None => false,
+    }
+}
+
+/// The result of an operation of that context was told.
+pub(crate) fn tell_copy(contexts: &mut Sequence<Context>, at: usize, call: u64)
+    requires { IsTrue (is_some_and (slice_get contexts.old at) (λ t. has_operation t.context call)) }
+    ensures { contexts.new ≡ change_place at (λ t. effects.told t call) contexts.old }
+{
+    let there = contexts.at_mut(at);
+    there.mark_answered(call);
 }

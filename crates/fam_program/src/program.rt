@@ -9,6 +9,7 @@ mod issue;
 mod pieces;
 mod reports;
 mod requests;
+mod waits;
 
 use crate::budget::moved;
 use crate::shaped::makes_shaped;
