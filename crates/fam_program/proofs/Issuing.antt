@@ -87,7 +87,7 @@ issued_within n before t plan blocking copies h =
     let up : n ≤ n + 1 = omega arith in
     let earlier : IsWithin (n + 1) (begun_by blocking n) t.context = within_on n (n + 1) before (begun_by blocking n) up (λ call below e. begun_is blocking n call before below e) t.context h in
     let new : IsIssued (n + 1) (begun_by blocking n) (effects.planned_operation n t.context.epoch plan blocking) =
-      record { below = omega arith; copies = copies; begins = begins_new blocking n }
+    record { below = omega arith; copies = copies; begins = begins_new blocking n }
     in
     record {
       epoch = earlier.epoch;
@@ -100,15 +100,16 @@ issued_contexts p ts new c plan blocking h e copies is =
     let P : List Tracked → Type 0 = λ xs. All (IsWithin (p.next_call + 1) (begun_by blocking p.next_call)) (contexts_of xs) in
     subst P (sym is) (of_there (slice_get ts c) refl)
   where
-  up : p.next_call ≤ p.next_call + 1
-  up = omega arith
-  of_there : (o : Option Tracked) → slice_get ts c ≡ o → All (IsWithin (p.next_call + 1) (begun_by blocking p.next_call)) (contexts_of (option_map_or (λ t. slice_set ts c (effects.issued t p.next_call plan blocking)) o ts))
-  of_there None g =
-      subst (All (IsWithin (p.next_call + 1) (begun_by blocking p.next_call))) e
-      (all_within p.next_call (p.next_call + 1) p.started (begun_by blocking p.next_call) up (λ call below s. begun_is blocking p.next_call call p.started below s) p.contexts h.within)
-  of_there (Some t) g =
-      contexts_on p (p.next_call + 1) (begun_by blocking p.next_call) ts c (effects.issued t p.next_call plan blocking) h e up (λ call below s. begun_is blocking p.next_call call p.started below s)
-      (issued_within p.next_call p.started t plan blocking copies (context_within p ts c t h e g))
+    up : p.next_call ≤ p.next_call + 1
+    up = omega arith
+
+    of_there : (o : Option Tracked) → slice_get ts c ≡ o → All (IsWithin (p.next_call + 1) (begun_by blocking p.next_call)) (contexts_of (option_map_or (λ t. slice_set ts c (effects.issued t p.next_call plan blocking)) o ts))
+    of_there None g =
+        subst (All (IsWithin (p.next_call + 1) (begun_by blocking p.next_call))) e
+        (all_within p.next_call (p.next_call + 1) p.started (begun_by blocking p.next_call) up (λ call below s. begun_is blocking p.next_call call p.started below s) p.contexts h.within)
+    of_there (Some t) g =
+        contexts_on p (p.next_call + 1) (begun_by blocking p.next_call) ts c (effects.issued t p.next_call plan blocking) h e up (λ call below s. begun_is blocking p.next_call call p.started below s)
+        (issued_within p.next_call p.started t plan blocking copies (context_within p ts c t h e g))
 
 pub issued_length : (p : ProgramState) (ts new : List Tracked) (c : ℕ) (f : Tracked → Tracked) → p.contexts ≡ contexts_of ts → new ≡ change_place c f ts → length (contexts_of new) ≡ length p.contexts
 issued_length p ts new c f e is =
@@ -116,9 +117,9 @@ issued_length p ts new c f e is =
     ∙ of_there (slice_get ts c)
     ∙ ap length (sym e)
   where
-  of_there : (o : Option Tracked) → length (contexts_of (option_map_or (λ t. slice_set ts c (f t)) o ts)) ≡ length (contexts_of ts)
-  of_there None = refl
-  of_there (Some t) = ap length (context_set ts c (f t)) ∙ length-set (contexts_of ts) c (f t).context
+    of_there : (o : Option Tracked) → length (contexts_of (option_map_or (λ t. slice_set ts c (f t)) o ts)) ≡ length (contexts_of ts)
+    of_there None = refl
+    of_there (Some t) = ap length (context_set ts c (f t)) ∙ length-set (contexts_of ts) c (f t).context
 
 -- a program once its counts have risen
 abbrev pub spent : ProgramState → List Context → ℕ → ℕ → ℕ → Started → ProgramState
@@ -141,20 +142,22 @@ issued_is old p ts new c op plan blocking calls bytes parts begun same e open_ol
     ∙ ap (λ (n : ℕ). Some (spent p (contexts_of new) calls bytes n (begun_by blocking p.next_call))) (sym pa)
     ∙ ap (λ (s : Started). Some (spent p (contexts_of new) calls bytes parts s)) (sym be)
   where
-  open_here : is_open p c ≡ true
-  open_here = ap (λ (q : ProgramState). is_open q c) same ∙ open_old
-  grown : Context → PlanKind → Context
-  grown context k = record context { operations = context.operations ++ of_kind p.next_call context.epoch blocking plan.pieces k ∷ [] }
-  of_there : (o : Option Tracked) → slice_get ts c ≡ o → issued_step p c op blocking plan.pieces ≡ Some (spent p (contexts_of (option_map_or (λ t. slice_set ts c (effects.issued t p.next_call plan blocking)) o ts)) (p.data_calls + 1) (p.moved + moved op) (p.pieces + length plan.pieces) (begun_by blocking p.next_call))
-  of_there None g =
-      let nothing : slice_get p.contexts c ≡ None = ap (λ (cs : List Context). slice_get cs c) e ∙ context_at ts c ∙ ap (option_map (λ (s : Tracked). s.context)) g in
-      let not_open : is_open p c ≡ false = ap (λ (o : Option Context). is_some (o >>= λ context. when context.is_open context)) nothing in
-      absurd (false≢true (sym not_open ∙ open_here))
-  of_there (Some t) g =
-      ap (λ (o : Option Context). o >>= λ context. Some (with_issued p c context op blocking plan.pieces)) (open_there p ts c t e g open_here)
-      ∙ ap (λ (k : PlanKind). Some (spent p (slice_set p.contexts c (grown t.context k)) (p.data_calls + 1) (p.moved + moved op) (p.pieces + length plan.pieces) (begun_by blocking p.next_call))) (sym kind)
-      ∙ ap (λ (cs : List Context). Some (spent p (slice_set cs c (grown t.context plan.kind)) (p.data_calls + 1) (p.moved + moved op) (p.pieces + length plan.pieces) (begun_by blocking p.next_call))) e
-      ∙ ap (λ (cs : List Context). Some (spent p cs (p.data_calls + 1) (p.moved + moved op) (p.pieces + length plan.pieces) (begun_by blocking p.next_call))) (sym (context_set ts c (effects.issued t p.next_call plan blocking)))
+    open_here : is_open p c ≡ true
+    open_here = ap (λ (q : ProgramState). is_open q c) same ∙ open_old
+
+    grown : Context → PlanKind → Context
+    grown context k = record context { operations = context.operations ++ of_kind p.next_call context.epoch blocking plan.pieces k ∷ [] }
+
+    of_there : (o : Option Tracked) → slice_get ts c ≡ o → issued_step p c op blocking plan.pieces ≡ Some (spent p (contexts_of (option_map_or (λ t. slice_set ts c (effects.issued t p.next_call plan blocking)) o ts)) (p.data_calls + 1) (p.moved + moved op) (p.pieces + length plan.pieces) (begun_by blocking p.next_call))
+    of_there None g =
+        let nothing : slice_get p.contexts c ≡ None = ap (λ (cs : List Context). slice_get cs c) e ∙ context_at ts c ∙ ap (option_map (λ (s : Tracked). s.context)) g in
+        let not_open : is_open p c ≡ false = ap (λ (o : Option Context). is_some (o >>= λ context. when context.is_open context)) nothing in
+        absurd (false≢true (sym not_open ∙ open_here))
+    of_there (Some t) g =
+        ap (λ (o : Option Context). o >>= λ context. Some (with_issued p c context op blocking plan.pieces)) (open_there p ts c t e g open_here)
+        ∙ ap (λ (k : PlanKind). Some (spent p (slice_set p.contexts c (grown t.context k)) (p.data_calls + 1) (p.moved + moved op) (p.pieces + length plan.pieces) (begun_by blocking p.next_call))) (sym kind)
+        ∙ ap (λ (cs : List Context). Some (spent p (slice_set cs c (grown t.context plan.kind)) (p.data_calls + 1) (p.moved + moved op) (p.pieces + length plan.pieces) (begun_by blocking p.next_call))) e
+        ∙ ap (λ (cs : List Context). Some (spent p cs (p.data_calls + 1) (p.moved + moved op) (p.pieces + length plan.pieces) (begun_by blocking p.next_call))) (sym (context_set ts c (effects.issued t p.next_call plan blocking)))
 
 -- what is out then
 pub issued_out : (ts new : List Tracked) (c call : ℕ) (plan : Plan) (blocking : Bool) → new ≡ change_place c (λ t. effects.issued t call plan blocking) ts → outs_of new ≡ with_none_out (outs_of ts) c (length plan.pieces)

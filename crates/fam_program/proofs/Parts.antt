@@ -166,9 +166,9 @@ collected_is old p ts call j c before after given same e place g may new =
     let m : Known (slice_get k.value.pieces j) (λ q. is_left q && effects.is_answer_of k.value.kind q.piece given) = known _ _ k.holds in
     let finish : Placed → Option ProgramState = λ at. slice_get at.operation.pieces j >>= λ left. Some (with_placed p at (effects.answered_with at.operation j left.piece given)) in
     let new_is : after.context ≡ with_operation before.context (effects.answered_with k.value j m.value.piece given) =
-      ap (λ (t : Tracked). t.context) new
-      ∙ ap (λ (o : Option Operation). option_map_or (λ operation. with_operation before.context (effects.with_collected operation j given)) o before.context) k.is
-      ∙ ap (λ (o : Option MarkedPiece). with_operation before.context (option_map_or (λ q. effects.answered_with k.value j q.piece given) o k.value)) m.is
+    ap (λ (t : Tracked). t.context) new
+    ∙ ap (λ (o : Option Operation). option_map_or (λ operation. with_operation before.context (effects.with_collected operation j given)) o before.context) k.is
+    ∙ ap (λ (o : Option MarkedPiece). with_operation before.context (option_map_or (λ q. effects.answered_with k.value j q.piece given) o k.value)) m.is
     in
     ap (λ (q : ProgramState). collected_step q call j given) (sym same)
     ∙ ap (λ (o : Option Placed). o >>= finish) (placed_at p call c before.context found there)
@@ -185,16 +185,16 @@ lost_is old p ts call j c before after same e place g crashed left new =
     let crashed_here : has_crashed p.standing ≡ true = ap (λ (q : ProgramState). has_crashed q.standing) same ∙ crashed in
     let left_here : is_left_piece p call j ≡ true = ap (λ (q : ProgramState). is_left_piece q call j) same ∙ left in
     let asked : is_some_and (operation_of before.context call) (λ operation. is_some_and (slice_get operation.pieces j) is_left) ≡ true =
-      left_of_operation (operation_of before.context call) j
-      ∙ asked_of ts call c before (λ t. effects.is_left_of t.context call j) (sym (left_there p ts call j e) ∙ left_here) place g
+    left_of_operation (operation_of before.context call) j
+    ∙ asked_of ts call c before (λ t. effects.is_left_of t.context call j) (sym (left_there p ts call j e) ∙ left_here) place g
     in
     let k : Known (operation_of before.context call) (λ operation. is_some_and (slice_get operation.pieces j) is_left) = known _ _ asked in
     let m : Known (slice_get k.value.pieces j) is_left = known _ _ k.holds in
     let finish : Placed → Option ProgramState = λ at. slice_get at.operation.pieces j >>= λ q. when (has_crashed p.standing && is_left q) (with_placed p at (without_piece at.operation j q.piece)) in
     let new_is : after.context ≡ with_operation before.context (without_piece k.value j m.value.piece) =
-      ap (λ (t : Tracked). t.context) new
-      ∙ ap (λ (o : Option Operation). option_map_or (λ operation. with_operation before.context (effects.with_lost operation j)) o before.context) k.is
-      ∙ ap (λ (o : Option MarkedPiece). with_operation before.context (option_map_or (λ q. without_piece k.value j q.piece) o k.value)) m.is
+    ap (λ (t : Tracked). t.context) new
+    ∙ ap (λ (o : Option Operation). option_map_or (λ operation. with_operation before.context (effects.with_lost operation j)) o before.context) k.is
+    ∙ ap (λ (o : Option MarkedPiece). with_operation before.context (option_map_or (λ q. without_piece k.value j q.piece) o k.value)) m.is
     in
     ap (λ (q : ProgramState). lose_step q call j) (sym same)
     ∙ ap (λ (o : Option Placed). o >>= finish) (placed_at p call c before.context found there)
@@ -212,10 +212,10 @@ flags_are h ts call j c before after flag e o place g new =
     let there : slice_get h.state.contexts c ≡ Some before.context = ap (λ (cs : List Context). slice_get cs c) e ∙ context_there ts c before g in
     let out_is : slice_get h.out c ≡ Some before.out = ap (λ (os : List (List (List Bool))). slice_get os c) o ∙ out_there ts c before g in
     let told : with_flags h call j flag ≡ slice_set (outs_of ts) c (effects.with_flag before call j flag) =
-      ap (λ (x : Option ℕ). option_map_or (λ k. flags_at h k call j flag) x h.out) found
-      ∙ ap (λ (x : Option Context). option_map_or (λ context. option_map_or (λ out. slice_set h.out c (effects.with_flag (tracked context out) call j flag)) (slice_get h.out c) h.out) x h.out) there
-      ∙ ap (λ (x : Option (List (List Bool))). option_map_or (λ out. slice_set h.out c (effects.with_flag (tracked before.context out) call j flag)) x h.out) out_is
-      ∙ ap (λ (os : List (List (List Bool))). slice_set os c (effects.with_flag before call j flag)) o
+    ap (λ (x : Option ℕ). option_map_or (λ k. flags_at h k call j flag) x h.out) found
+    ∙ ap (λ (x : Option Context). option_map_or (λ context. option_map_or (λ out. slice_set h.out c (effects.with_flag (tracked context out) call j flag)) (slice_get h.out c) h.out) x h.out) there
+    ∙ ap (λ (x : Option (List (List Bool))). option_map_or (λ out. slice_set h.out c (effects.with_flag (tracked before.context out) call j flag)) x h.out) out_is
+    ∙ ap (λ (os : List (List (List Bool))). slice_set os c (effects.with_flag before call j flag)) o
     in
     out_set ts c after ∙ ap (λ (flags : List (List Bool)). slice_set (outs_of ts) c flags) new ∙ sym told
 
@@ -226,18 +226,18 @@ kind_is p ts call c t kind e place g h =
     ∙ of_operation (operation_of t.context call)
     ∙ h
   where
-  of_operation : (o : Option Operation) → option_map (λ (at : Placed). at.operation.kind) (o >>= λ operation. Some (put c t.context operation)) ≡ option_map (λ operation. operation.kind) o
-  of_operation None = refl
-  of_operation (Some operation) = refl
+    of_operation : (o : Option Operation) → option_map (λ (at : Placed). at.operation.kind) (o >>= λ operation. Some (put c t.context operation)) ≡ option_map (λ operation. operation.kind) o
+    of_operation None = refl
+    of_operation (Some operation) = refl
 
 pub piece_is : (p : ProgramState) (ts : List Tracked) (call j c : ℕ) (t : Tracked) → p.contexts ≡ contexts_of ts → place_in ts call ≡ Some c → slice_get ts c ≡ Some t → piece_of p call j ≡ effects.piece_of t.context call j
 piece_is p ts call j c t e place g =
     ap (λ (o : Option Placed). o >>= λ at. slice_get at.operation.pieces j) (placed_at p call c t.context (place_is p ts call e ∙ place) (ap (λ (cs : List Context). slice_get cs c) e ∙ context_there ts c t g))
     ∙ of_operation (operation_of t.context call)
   where
-  of_operation : (o : Option Operation) → ((o >>= λ operation. Some (put c t.context operation)) >>= λ at. slice_get at.operation.pieces j) ≡ (o >>= λ operation. slice_get operation.pieces j)
-  of_operation None = refl
-  of_operation (Some operation) = refl
+    of_operation : (o : Option Operation) → ((o >>= λ operation. Some (put c t.context operation)) >>= λ at. slice_get at.operation.pieces j) ≡ (o >>= λ operation. slice_get operation.pieces j)
+    of_operation None = refl
+    of_operation (Some operation) = refl
 
 -- an operation that is there has a place
 pub placed_place : (p : ProgramState) (ts : List Tracked) (call : ℕ) → p.contexts ≡ contexts_of ts → is_some (placed p call) ≡ true → is_some (place_in ts call) ≡ true
@@ -257,3 +257,54 @@ pub place_has : (ts : List Tracked) (call c : ℕ) (t : Tracked) → place_in ts
 place_has ts call c t place g =
     let passes = (position-Some (λ (s : Tracked). has_operation s.context call) ts c t place).1 in
     ap (λ (s : Tracked). has_operation s.context call) (sym (get_or_from_slice_get ts c t t g)) ∙ passes
+
+-- what may be collected, by what is known of a piece that is left
+pub left_placed : (p : ProgramState) (call j : ℕ) → is_left_piece p call j ≡ true → is_some (placed p call) ≡ true
+left_placed p call j h = of_placed (placed p call) h where
+  of_placed : (o : Option Placed) → is_some_and o (λ at. is_some_and (slice_get at.operation.pieces j) is_left) ≡ true → is_some o ≡ true
+  of_placed None h' = h'
+  of_placed (Some at) h' = refl
+
+pub left_piece : (p : ProgramState) (call j : ℕ) → is_left_piece p call j ≡ true → is_some (piece_of p call j) ≡ true
+left_piece p call j h = of_placed (placed p call) h where
+  of_piece : (o : Option MarkedPiece) → is_some_and o is_left ≡ true → is_some o ≡ true
+  of_piece None h' = h'
+  of_piece (Some q) h' = refl
+
+  of_placed : (o : Option Placed) → is_some_and o (λ at. is_some_and (slice_get at.operation.pieces j) is_left) ≡ true → is_some (o >>= λ at. slice_get at.operation.pieces j) ≡ true
+  of_placed None h' = h'
+  of_placed (Some at) h' = of_piece (slice_get at.operation.pieces j) h'
+
+pub not_left : (p : ProgramState) (call j : ℕ) (given : PieceAnswer) → is_left_piece p call j ≡ false → may_collect p call j given ≡ false
+not_left p call j given h = of_placed (placed p call) h where
+  of_bit : (b d : Bool) → b ≡ false → (b && d) ≡ false
+  of_bit false d h' = refl
+  of_bit true d h' = absurd (false≢true (sym h'))
+
+  of_piece : (kind : PlanKind) (o : Option MarkedPiece) → is_some_and o is_left ≡ false → is_some_and o (λ q. is_left q && effects.is_answer_of kind q.piece given) ≡ false
+  of_piece kind None h' = refl
+  of_piece kind (Some q) h' = of_bit (is_left q) (effects.is_answer_of kind q.piece given) h'
+
+  of_placed : (o : Option Placed) → is_some_and o (λ at. is_some_and (slice_get at.operation.pieces j) is_left) ≡ false → is_some_and o (λ at. is_some_and (slice_get at.operation.pieces j) (λ q. is_left q && effects.is_answer_of at.operation.kind q.piece given)) ≡ false
+  of_placed None h' = refl
+  of_placed (Some at) h' = of_piece at.operation.kind (slice_get at.operation.pieces j) h'
+
+pub collect_by : (p : ProgramState) (call j : ℕ) (given : PieceAnswer) (kind : PlanKind) (piece : PlanPiece) → is_left_piece p call j ≡ true → option_map (λ at. at.operation.kind) (placed p call) ≡ Some kind → option_map (λ q. q.piece) (piece_of p call j) ≡ Some piece → may_collect p call j given ≡ effects.is_answer_of kind piece given
+collect_by p call j given kind piece h k m = of_placed (placed p call) h k m where
+  of_bit : (b d : Bool) → b ≡ true → (b && d) ≡ d
+  of_bit true d h' = refl
+  of_bit false d h' = absurd (false≢true h')
+
+  of_piece : (found : PlanKind) (o : Option MarkedPiece) → found ≡ kind → is_some_and o is_left ≡ true → option_map (λ q. q.piece) o ≡ Some piece → is_some_and o (λ q. is_left q && effects.is_answer_of found q.piece given) ≡ effects.is_answer_of kind piece given
+  of_piece found None e h' m' = absurd (false≢true h')
+  of_piece found (Some q) e h' m' =
+      let same : q.piece ≡ piece = cc in
+      of_bit (is_left q) (effects.is_answer_of found q.piece given) h'
+      ∙ ap (λ (x : PlanKind). effects.is_answer_of x q.piece given) e
+      ∙ ap (λ (x : PlanPiece). effects.is_answer_of kind x given) same
+
+  of_placed : (o : Option Placed) → is_some_and o (λ at. is_some_and (slice_get at.operation.pieces j) is_left) ≡ true → option_map (λ at. at.operation.kind) o ≡ Some kind → option_map (λ q. q.piece) (o >>= λ at. slice_get at.operation.pieces j) ≡ Some piece → is_some_and o (λ at. is_some_and (slice_get at.operation.pieces j) (λ q. is_left q && effects.is_answer_of at.operation.kind q.piece given)) ≡ effects.is_answer_of kind piece given
+  of_placed None h' k' m' = absurd (false≢true h')
+  of_placed (Some at) h' k' m' =
+      let same : at.operation.kind ≡ kind = cc in
+      of_piece at.operation.kind (slice_get at.operation.pieces j) same h' m'

@@ -52,16 +52,17 @@ told_contexts p ts new c f h e kept is =
     let P : List Tracked → Type 0 = λ xs. All (IsWithin (p.next_call + 1) p.started) (contexts_of xs) in
     subst P (sym is) (of_there (slice_get ts c) refl)
   where
-  up : p.next_call ≤ p.next_call + 1
-  up = omega arith
-  later : All (IsWithin (p.next_call + 1) p.started) p.contexts
-  later = all_within p.next_call (p.next_call + 1) p.started p.started up (λ call below s. s) p.contexts h.within
-  of_there : (o : Option Tracked) → slice_get ts c ≡ o → All (IsWithin (p.next_call + 1) p.started) (contexts_of (option_map_or (λ t. slice_set ts c (f t)) o ts))
-  of_there None g = subst (All (IsWithin (p.next_call + 1) p.started)) e later
-  of_there (Some t) g =
-      contexts_on p (p.next_call + 1) p.started ts c (f t) h e up (λ call below s. s)
-      (kept t (all_get (IsWithin (p.next_call + 1) p.started) p.contexts c t.context later (ap (λ (cs : List Context). slice_get cs c) e ∙ context_there ts c t g)))
+    up : p.next_call ≤ p.next_call + 1
+    up = omega arith
 
+    later : All (IsWithin (p.next_call + 1) p.started) p.contexts
+    later = all_within p.next_call (p.next_call + 1) p.started p.started up (λ call below s. s) p.contexts h.within
+
+    of_there : (o : Option Tracked) → slice_get ts c ≡ o → All (IsWithin (p.next_call + 1) p.started) (contexts_of (option_map_or (λ t. slice_set ts c (f t)) o ts))
+    of_there None g = subst (All (IsWithin (p.next_call + 1) p.started)) e later
+    of_there (Some t) g =
+        contexts_on p (p.next_call + 1) p.started ts c (f t) h e up (λ call below s. s)
+        (kept t (all_get (IsWithin (p.next_call + 1) p.started) p.contexts c t.context later (ap (λ (cs : List Context). slice_get cs c) e ∙ context_there ts c t g)))
 
 -- a program once the results of a context are told
 pub told_program : (p : ProgramState) (ts new : List Tracked) (c : ℕ) (f : Tracked → Tracked) → IsProgram p → p.contexts ≡ contexts_of ts → p.next_call < number_end → ((t : Tracked) → IsWithin (p.next_call + 1) p.started t.context → IsWithin (p.next_call + 1) p.started (f t).context) → new ≡ change_place c f ts → IsProgram (moved_on p (p.next_call + 1) (contexts_of new) p.started)
@@ -137,8 +138,8 @@ close_is p ts c given e =
     told_step p ts c (λ context. not (c == 0) && not (is_pending context) && same_reply given (report context)) reports.closed closed_context e (λ t. refl) (slice_get ts c) refl
     ∙ ap (λ (b : Bool). when b (with_all (counted p) (contexts_of (change_place c reports.closed ts)))) (out_of_test (slice_get ts c) (not (c == 0)) given)
   where
-  closed_context : Context → Context
-  closed_context context = record (reported context) { is_open = false }
+    closed_context : Context → Context
+    closed_context context = record (reported context) { is_open = false }
 
 pub may_close : (p : ProgramState) (ts : List Tracked) (c : ℕ) (given : Reply) → p.contexts ≡ contexts_of ts → is_some (close_step p c given) ≡ (not (c == 0) && is_some_and (slice_get ts c) (λ t. reports.may_report t.context given))
 may_close p ts c given e = ap is_some (close_is p ts c given e) ∙ is_some_when (not (c == 0) && is_some_and (slice_get ts c) (λ t. reports.may_report t.context given)) _

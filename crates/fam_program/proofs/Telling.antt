@@ -83,16 +83,16 @@ operation_may p ts call round given h e begun =
     ∙ asked_there p ts call (λ at. not (has_left at.operation) && same_reply given (result at.operation)) (λ t. reports.may_answer t.context call given) e
     (λ c t g. of_operation c t g (operation_of t.context call) refl)
   where
-  of_operation : (c : ℕ) (t : Tracked) → slice_get ts c ≡ Some t → (o : Option Operation) → operation_of t.context call ≡ o → is_some_and (operation_of t.context call) (λ operation. not (has_left operation) && same_reply given (result operation)) ≡ reports.may_answer t.context call given
-  of_operation c t g None q =
-      ap (λ (x : Option Operation). is_some_and x (λ operation. not (has_left operation) && same_reply given (result operation))) q
-      ∙ sym (no_result t.context call given q)
-  of_operation c t g (Some operation) q =
-      let issued : IsIssued p.next_call p.started operation = found_in (IsIssued p.next_call p.started) t.context call operation (context_within p ts c t h e g).operations q in
-      let started_here : p.started ≡ started.Operation operation.call = begun ∙ ap (λ (n : ℕ). started.Operation n) (sym (found_number t.context call operation q)) in
-      let untold : operation.reported ≡ false = untold_by operation.blocking operation.reported (issued.begins started_here) in
-      ap (λ (x : Option Operation). is_some_and x (λ operation'. not (has_left operation') && same_reply given (result operation'))) q
-      ∙ sym (result_test t.context call given operation q untold)
+    of_operation : (c : ℕ) (t : Tracked) → slice_get ts c ≡ Some t → (o : Option Operation) → operation_of t.context call ≡ o → is_some_and (operation_of t.context call) (λ operation. not (has_left operation) && same_reply given (result operation)) ≡ reports.may_answer t.context call given
+    of_operation c t g None q =
+        ap (λ (x : Option Operation). is_some_and x (λ operation. not (has_left operation) && same_reply given (result operation))) q
+        ∙ sym (no_result t.context call given q)
+    of_operation c t g (Some operation) q =
+        let issued : IsIssued p.next_call p.started operation = found_in (IsIssued p.next_call p.started) t.context call operation (context_within p ts c t h e g).operations q in
+        let started_here : p.started ≡ started.Operation operation.call = begun ∙ ap (λ (n : ℕ). started.Operation n) (sym (found_number t.context call operation q)) in
+        let untold : operation.reported ≡ false = untold_by operation.blocking operation.reported (issued.begins started_here) in
+        ap (λ (x : Option Operation). is_some_and x (λ operation'. not (has_left operation') && same_reply given (result operation'))) q
+        ∙ sym (result_test t.context call given operation q untold)
 
 -- what may be answered is there
 started_there : (s : Started) (p : ProgramState) (round : ℕ) (given : Reply) → is_some (answer_step s round p given) ≡ true → reports.has_started s p ≡ true
@@ -127,6 +127,7 @@ pub changed_contexts : (p : ProgramState) (n : ℕ) (begun : Started) (ts : List
 changed_contexts p n begun ts c f h e up on kept = of_there (slice_get ts c) refl where
   later : All (IsWithin n begun) p.contexts
   later = all_within p.next_call n p.started begun up on p.contexts h.within
+
   of_there : (o : Option Tracked) → slice_get ts c ≡ o → All (IsWithin n begun) (contexts_of (option_map_or (λ t. slice_set ts c (f t)) o ts))
   of_there None g = subst (All (IsWithin n begun)) e later
   of_there (Some t) g =
@@ -140,13 +141,17 @@ told_all : (s : Started) (p : ProgramState) (ts : List Tracked) → IsProgram p 
 told_all s p ts h e = of_started s where
   same : p.next_call ≤ p.next_call
   same = omega arith
+
   on : (call : ℕ) → call < p.next_call → started.Nothing ≡ started.Operation call → p.started ≡ started.Operation call
   on call below q = nothing_begun call p.started q
+
   plain : All (IsWithin p.next_call started.Nothing) (contexts_of ts)
   plain = subst (All (IsWithin p.next_call started.Nothing)) e (all_within p.next_call p.next_call p.started started.Nothing same on p.contexts h.within)
+
   of_place : (call : ℕ) (o : Option ℕ) → All (IsWithin p.next_call started.Nothing) (contexts_of (option_map_or (λ c. change_place c (λ t. effects.told t call) ts) o ts))
   of_place call None = plain
   of_place call (Some c) = changed_contexts p p.next_call started.Nothing ts c (λ t. effects.told t call) h e same on (told_within p.next_call started.Nothing refl call)
+
   of_started : (s' : Started) → All (IsWithin p.next_call started.Nothing) (contexts_of (reports.told_by s' ts))
   of_started started.Nothing = plain
   of_started (started.Barrier call) = plain
@@ -177,32 +182,36 @@ told_step : (p : ProgramState) (ts : List Tracked) (call : ℕ) (given : Reply) 
 told_step p ts call given e h = of_place (place_in ts call) refl where
   finish : Placed → Option ProgramState
   finish at = when (not (has_left at.operation) && same_reply given (result at.operation)) (with_nothing_started (with_placed p at (as_reported at.operation)))
+
   some_placed : is_some (placed p call) ≡ true
   some_placed = started_there (started.Operation call) p 0 given h
+
   of_operation : (c : ℕ) (t : Tracked) → place_in ts call ≡ Some c → slice_get ts c ≡ Some t → (o : Option Operation) → operation_of t.context call ≡ o → answered_step p call given ≡ Some (finished p (contexts_of (slice_set ts c (effects.told t call))))
   of_operation c t q g o r =
       let found : context_of p call ≡ Some c = place_is p ts call e ∙ q in
       let there : slice_get p.contexts c ≡ Some t.context = ap (λ (cs : List Context). slice_get cs c) e ∙ context_there ts c t g in
       let at_step : answered_step p call given ≡ ((o >>= λ operation. Some (put c t.context operation)) >>= finish) =
-        ap (λ (x : Option Placed). x >>= finish) (placed_at p call c t.context found there)
-        ∙ ap (λ (x : Option Operation). (x >>= λ operation. Some (put c t.context operation)) >>= finish) r
+      ap (λ (x : Option Placed). x >>= finish) (placed_at p call c t.context found there)
+      ∙ ap (λ (x : Option Operation). (x >>= λ operation. Some (put c t.context operation)) >>= finish) r
       in
       at_step ∙ of_known o r (ap is_some (sym at_step) ∙ h)
     where
-    of_known : (o' : Option Operation) → operation_of t.context call ≡ o' → is_some ((o' >>= λ operation. Some (put c t.context operation)) >>= finish) ≡ true → ((o' >>= λ operation. Some (put c t.context operation)) >>= finish) ≡ Some (finished p (contexts_of (slice_set ts c (effects.told t call))))
-    of_known None r' h' = absurd (false≢true h')
-    of_known (Some operation) r' h' =
-        let new_is : (effects.told t call).context ≡ with_operation t.context (as_reported operation) =
+      of_known : (o' : Option Operation) → operation_of t.context call ≡ o' → is_some ((o' >>= λ operation. Some (put c t.context operation)) >>= finish) ≡ true → ((o' >>= λ operation. Some (put c t.context operation)) >>= finish) ≡ Some (finished p (contexts_of (slice_set ts c (effects.told t call))))
+      of_known None r' h' = absurd (false≢true h')
+      of_known (Some operation) r' h' =
+          let new_is : (effects.told t call).context ≡ with_operation t.context (as_reported operation) =
           ap (λ (x : Option Operation). option_map_or (λ y. with_operation t.context (as_reported y)) x t.context) r'
-        in
-        when_some (not (has_left operation) && same_reply given (result operation)) (with_nothing_started (with_context p c (with_operation t.context (as_reported operation)))) h'
-        ∙ ap (λ (context : Context). Some (with_nothing_started (with_context p c context))) (sym new_is)
-        ∙ ap (λ (q' : ProgramState). Some (with_nothing_started q')) (with_set p ts c (effects.told t call) e)
+          in
+          when_some (not (has_left operation) && same_reply given (result operation)) (with_nothing_started (with_context p c (with_operation t.context (as_reported operation)))) h'
+          ∙ ap (λ (context : Context). Some (with_nothing_started (with_context p c context))) (sym new_is)
+          ∙ ap (λ (q' : ProgramState). Some (with_nothing_started q')) (with_set p ts c (effects.told t call) e)
+
   of_there : (c : ℕ) (o : Option Tracked) → place_in ts call ≡ Some c → slice_get ts c ≡ o → answered_step p call given ≡ Some (finished p (contexts_of (option_map_or (λ t. slice_set ts c (effects.told t call)) o ts)))
   of_there c None q g =
       let past : slice_get p.contexts c ≡ None = ap (λ (cs : List Context). slice_get cs c) e ∙ context_at ts c ∙ ap (option_map (λ (s : Tracked). s.context)) g in
       absurd (false≢true (sym (ap is_some (past_all p call c (place_is p ts call e ∙ q) past)) ∙ some_placed))
   of_there c (Some t) q g = of_operation c t q g (operation_of t.context call) refl
+
   of_place : (o : Option ℕ) → place_in ts call ≡ o → answered_step p call given ≡ Some (finished p (contexts_of (option_map_or (λ c. change_place c (λ t. effects.told t call) ts) o ts)))
   of_place None q = absurd (false≢true (sym (ap is_some q) ∙ placed_place p ts call e some_placed))
   of_place (Some c) q = of_there c (slice_get ts c) q refl

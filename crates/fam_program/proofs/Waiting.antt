@@ -82,6 +82,7 @@ copy_is p ts c named h e = of_there (slice_get ts c) refl where
       is_some_when (is_copy operation.kind && is_unreported operation) operation
       ∙ copy_bits (is_copy operation.kind) operation.blocking operation.reported (copies_of p ts c named t operation h e g r)
       ∙ sym (copy_said operation.reported operation)
+
   of_there : (o : Option Tracked) → slice_get ts c ≡ o → is_some (unreported_copy p c named) ≡ is_some_and o (λ t. effects.is_copy_of t.context named)
   of_there None g = ap is_some (no_copy p ts c named e g)
   of_there (Some t) g =
@@ -98,9 +99,9 @@ wait_bits true operation same = of_bit (is_copy operation.kind) where
 wait_bits false operation same =
     ap (λ (b : Bool). is_copy operation.kind && (b && same)) (none_left operation.pieces) ∙ of_bit (is_copy operation.kind)
   where
-  of_bit : (b : Bool) → (b && (not (has_left operation) && same)) ≡ ((b && true) && (not (has_left operation) && same))
-  of_bit true = refl
-  of_bit false = refl
+    of_bit : (b : Bool) → (b && (not (has_left operation) && same)) ≡ ((b && true) && (not (has_left operation) && same))
+    of_bit true = refl
+    of_bit false = refl
 
 -- the step of a wait
 wait_is : (p : ProgramState) (ts : List Tracked) (c named : ℕ) (given : Reply) → IsProgram p → p.contexts ≡ contexts_of ts → (o : Option Tracked) → slice_get ts c ≡ o → wait_step p c named given ≡ when (is_some_and o (λ t. reports.may_wait t.context named given)) (with_all (counted p) (contexts_of (option_map_or (λ t. slice_set ts c (effects.told t named)) o ts)))
@@ -113,26 +114,27 @@ wait_is p ts c named given h e (Some t) g =
     ∙ ap (λ (o : Option Operation). o >>= finish) (copy_there p ts c named t e g)
     ∙ of_operation (operation_of t.context named) refl
   where
-  finish : Operation → Option ProgramState
-  finish operation = when (not (has_left operation) && same_reply given (result operation)) (with_context (counted p) c (with_operation t.context (as_reported operation)))
-  of_operation : (o : Option Operation) → operation_of t.context named ≡ o → ((operation_of t.context named >>= λ operation. when (is_copy operation.kind && is_unreported operation) operation) >>= finish) ≡ when (reports.may_wait t.context named given) (with_all (counted p) (contexts_of (slice_set ts c (effects.told t named))))
-  of_operation None r =
-      ap (λ (x : Option Operation). (x >>= λ operation. when (is_copy operation.kind && is_unreported operation) operation) >>= finish) r
-      ∙ sym (ap (λ (x : Option Operation). when (is_some_and (x >>= λ q. when (not q.reported) q) (λ q. is_copy q.kind) && (reports.no_left (option_map effects.left_count (x >>= λ q. when (not q.reported) q)) && is_some_and x (λ q. same_reply given (result q)))) (with_all (counted p) (contexts_of (slice_set ts c (effects.told t named))))) r)
-  of_operation (Some operation) r =
-      let new_is : (effects.told t named).context ≡ with_operation t.context (as_reported operation) =
+    finish : Operation → Option ProgramState
+    finish operation = when (not (has_left operation) && same_reply given (result operation)) (with_context (counted p) c (with_operation t.context (as_reported operation)))
+
+    of_operation : (o : Option Operation) → operation_of t.context named ≡ o → ((operation_of t.context named >>= λ operation. when (is_copy operation.kind && is_unreported operation) operation) >>= finish) ≡ when (reports.may_wait t.context named given) (with_all (counted p) (contexts_of (slice_set ts c (effects.told t named))))
+    of_operation None r =
+        ap (λ (x : Option Operation). (x >>= λ operation. when (is_copy operation.kind && is_unreported operation) operation) >>= finish) r
+        ∙ sym (ap (λ (x : Option Operation). when (is_some_and (x >>= λ q. when (not q.reported) q) (λ q. is_copy q.kind) && (reports.no_left (option_map effects.left_count (x >>= λ q. when (not q.reported) q)) && is_some_and x (λ q. same_reply given (result q)))) (with_all (counted p) (contexts_of (slice_set ts c (effects.told t named))))) r)
+    of_operation (Some operation) r =
+        let new_is : (effects.told t named).context ≡ with_operation t.context (as_reported operation) =
         ap (λ (x : Option Operation). option_map_or (λ y. with_operation t.context (as_reported y)) x t.context) r
-      in
-      let may_is : reports.may_wait t.context named given ≡ ((is_copy operation.kind && is_unreported operation) && (not (has_left operation) && same_reply given (result operation))) =
+        in
+        let may_is : reports.may_wait t.context named given ≡ ((is_copy operation.kind && is_unreported operation) && (not (has_left operation) && same_reply given (result operation))) =
         ap (λ (x : Option Operation). is_some_and (x >>= λ q. when (not q.reported) q) (λ q. is_copy q.kind) && (reports.no_left (option_map effects.left_count (x >>= λ q. when (not q.reported) q)) && is_some_and x (λ q. same_reply given (result q)))) r
         ∙ wait_bits operation.reported operation (same_reply given (result operation))
         ∙ ap (λ (b : Bool). b && (not (has_left operation) && same_reply given (result operation))) (sym (copy_bits (is_copy operation.kind) operation.blocking operation.reported (copies_of p ts c named t operation h e g r)))
-      in
-      ap (λ (x : Option Operation). (x >>= λ y. when (is_copy y.kind && is_unreported y) y) >>= finish) r
-      ∙ both_tests (is_copy operation.kind && is_unreported operation) operation (λ y. not (has_left y) && same_reply given (result y)) (λ y. with_context (counted p) c (with_operation t.context (as_reported y)))
-      ∙ ap (λ (b : Bool). when b (with_context (counted p) c (with_operation t.context (as_reported operation)))) (sym may_is)
-      ∙ ap (λ (context : Context). when (reports.may_wait t.context named given) (with_context (counted p) c context)) (sym new_is)
-      ∙ ap (λ (q : ProgramState). when (reports.may_wait t.context named given) q) (with_set (counted p) ts c (effects.told t named) e)
+        in
+        ap (λ (x : Option Operation). (x >>= λ y. when (is_copy y.kind && is_unreported y) y) >>= finish) r
+        ∙ both_tests (is_copy operation.kind && is_unreported operation) operation (λ y. not (has_left y) && same_reply given (result y)) (λ y. with_context (counted p) c (with_operation t.context (as_reported y)))
+        ∙ ap (λ (b : Bool). when b (with_context (counted p) c (with_operation t.context (as_reported operation)))) (sym may_is)
+        ∙ ap (λ (context : Context). when (reports.may_wait t.context named given) (with_context (counted p) c context)) (sym new_is)
+        ∙ ap (λ (q : ProgramState). when (reports.may_wait t.context named given) q) (with_set (counted p) ts c (effects.told t named) e)
 
 pub may_wait : (p : ProgramState) (ts : List Tracked) (c named : ℕ) (given : Reply) → IsProgram p → p.contexts ≡ contexts_of ts → is_some (wait_step p c named given) ≡ is_some_and (slice_get ts c) (λ t. reports.may_wait t.context named given)
 may_wait p ts c named given h e =
@@ -153,6 +155,7 @@ waited_for p c named given h = of_context (slice_get p.contexts c) h where
   of_copy : (context : Context) (o : Option Operation) → is_some (o >>= λ operation. when (not (has_left operation) && same_reply given (result operation)) (with_context (counted p) c (with_operation context (as_reported operation)))) ≡ true → is_some o ≡ true
   of_copy context None h' = h'
   of_copy context (Some operation) h' = refl
+
   of_context : (o : Option Context) → is_some (o >>= λ context. unreported_copy p c named >>= λ operation. when (not (has_left operation) && same_reply given (result operation)) (with_context (counted p) c (with_operation context (as_reported operation)))) ≡ true → is_some (unreported_copy p c named) ≡ true
   of_context None h' = absurd (false≢true h')
   of_context (Some context) h' = of_copy context (unreported_copy p c named) h'
@@ -163,6 +166,7 @@ copy_held p ts c named e h = of_there (slice_get ts c) refl where
   of_operation : (t : Tracked) (o : Option Operation) → operation_of t.context named ≡ o → is_some (o >>= λ operation. when (is_copy operation.kind && is_unreported operation) operation) ≡ true → has_operation t.context named ≡ true
   of_operation t None r h' = absurd (false≢true h')
   of_operation t (Some operation) r h' = found_has t.context named operation r
+
   of_there : (o : Option Tracked) → slice_get ts c ≡ o → is_some_and o (λ t. has_operation t.context named) ≡ true
   of_there None g = absurd (false≢true (sym (ap is_some (no_copy p ts c named e g)) ∙ h))
   of_there (Some t) g = of_operation t (operation_of t.context named) refl (sym (ap is_some (copy_there p ts c named t e g)) ∙ h)

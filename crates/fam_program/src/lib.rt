@@ -7,6 +7,8 @@ mod program;
 mod shaped;
 mod slots;
 mod started;
+#[cfg(test)]
+mod tests;
 mod tracked;
 
 pub use program::Program;

@@ -25,7 +25,9 @@ use std::marker::Model;
 const NUMBER_END: u64 = 1 << 63;
 /// The data calls of a program that are accepted, the bytes that they move, and their pieces.
 const MAX_DATA_CALLS: u64 = 65_536;
+
 const MAX_MOVED: u64 = 4_194_304;
+
 const MAX_PIECES: u64 = 65_536;
 
 /// What one program has. Contracts see its state of the definitions, and which of its pieces are out.
@@ -73,8 +75,7 @@ impl Program {
         ensures state { IfOk result (λ p. p.state ≡ new_program who is_local) }
         ensures out { IfOk result (λ p. p.out ≡ nothing_out) }
     {
-        let contexts = vec![
-            in alloc;
+        let contexts = vec![in alloc;
             Context::new(alloc),
             Context::closed(alloc),
             Context::closed(alloc),
@@ -82,7 +83,7 @@ impl Program {
             Context::closed(alloc),
             Context::closed(alloc),
             Context::closed(alloc),
-            Context::closed(alloc)
+            Context::closed(alloc),
         ]?;
         Ok(Program {
             who,

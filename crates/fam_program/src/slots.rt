@@ -91,11 +91,7 @@ fn put_item(held: &mut Sequence<Option<Descriptor>>, slot: u8, item: Descriptor)
 }
 
 /// Fills the slot of a call with the region that its reply tells, if it tells one.
-pub(crate) fn fill_regions(
-    held: &mut Sequence<Option<RegionId>>,
-    call: &MetaCall,
-    reply: &Reply,
-)
+pub(crate) fn fill_regions(held: &mut Sequence<Option<RegionId>>, call: &MetaCall, reply: &Reply)
     ensures { held.new ≡ slots.regions_after held.old (slots.region_slot_of call.now) reply.now }
 {
     if let Some(slot) = region_slot_of(call) {

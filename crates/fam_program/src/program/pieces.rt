@@ -4,12 +4,36 @@ ghost use Rattle.std.specs.Prelude.{◌≡◌, Some, IsTrue, IsSome, false, opti
 ghost use Rattle.fam_model.specs.PieceStep.{lose_step};
 ghost use Rattle.fam_model.specs.Programs as programs;
 ghost use Rattle.fam_model.specs.Rules.{is_due};
+ghost use Rattle.fam_context.specs.Effects as effects;
 ghost use Rattle.fam_program.specs.Parts as parts;
 
 use super::Program;
 use crate::places;
 use crate::started::has_crashed;
-use fam_model::{PieceAnswer, PlanKind, PlanPiece};
+use fam_model::{PieceAnswer, PieceKind, PlanKind, PlanPiece};
+
+/// Whether a piece of an operation of that kind may have this answer: a refusal, or just so many bytes as it has
+/// for a read and a fetching atomic, and that it is done for any other piece.
+fn is_answer_of(kind: PlanKind, piece: &PlanPiece, answer: &PieceAnswer) -> bool
+    ensures { result ≡ effects.is_answer_of kind piece.now answer.now }
+{
+    let gives_bytes = gives_bytes(kind, piece.kind);
+    match answer {
+        PieceAnswer::Ok => !gives_bytes,
+        PieceAnswer::Data(bytes) => gives_bytes && bytes.len() as u64 == piece.n,
+        PieceAnswer::Refused(_) => true,
+    }
+}
+
+fn gives_bytes(kind: PlanKind, piece: PieceKind) -> bool
+    ensures { result ≡ effects.gives_bytes kind piece }
+{
+    match piece {
+        PieceKind::Read => true,
+        PieceKind::Write => false,
+        PieceKind::Atomic { .. } => matches!(kind, PlanKind::Fetch),
+    }
+}
 
 impl Program {
     /// Whether the piece is there and may come: it is left, no fence holds it back, and a copy's write has
@@ -32,6 +56,18 @@ impl Program {
         ensures { result ≡ parts.is_left_piece self.now.state call piece }
     {
         places::is_left(&self.contexts, call, piece)
+    }
+
+    /// Whether the piece is there and left, and may have this answer: a refusal, or just so many bytes as it has
+    /// for a read and a fetching atomic, and that it is done for any other piece.
+    #[tactic(auto, using(crate::proofs::Parts::left_placed, crate::proofs::Parts::left_piece, crate::proofs::Parts::not_left, crate::proofs::Parts::collect_by))]
+    pub fn may_collect(&self, call: u64, piece: u32, answer: &PieceAnswer) -> bool
+        ensures { result ≡ parts.may_collect self.now.state call piece answer.now }
+    {
+        if !self.is_left(call, piece) {
+            return false;
+        }
+        is_answer_of(self.kind(call), self.piece(call, piece), answer)
     }
 
     /// A piece is answered. A copy's read is answered with the bytes that it read: it is then done, and its

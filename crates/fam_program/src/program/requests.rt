@@ -24,16 +24,15 @@ impl Program {
     }
 
     /// The request that a call makes; none exactly where a slot that it reads is empty.
-    pub fn request_of(
-        &self,
-        alloc: Global,
-        call: &MetaCall,
-    ) -> Result<Option<Request>, NoMemory>
+    pub fn request_of(&self, alloc: Global, call: &MetaCall) -> Result<Option<Request>, NoMemory>
         ensures { IfOk result (λ request. request ≡ programs.request_of self.now.state call.now) }
     {
         match call {
             MetaCall::CreateRegion {
-                name, size, mode, ..
+                name,
+                size,
+                mode,
+                ..
             } => Ok(Some(Request::CreateRegion {
                 name: Bytes::of(alloc, name.as_slice())?,
                 size: *size,

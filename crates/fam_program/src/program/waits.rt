@@ -71,10 +71,7 @@ impl Program {
             | Call::Fence { context }
             | Call::Quiet { context }
             | Call::CopyWait { context, .. }
-                if !self.is_open(*context) =>
-            {
-                Some(FamError::BadHandle)
-            }
+                if !self.is_open(*context) => { Some(FamError::BadHandle) }
             Call::CopyWait { context, call } if !self.has_copy(*context, *call) => {
                 Some(FamError::BadHandle)
             }

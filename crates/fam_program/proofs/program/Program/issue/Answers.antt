@@ -42,7 +42,7 @@ invariant_of-self-2 c =
     let ts = c.self.inside.contexts in
     let is = c.in_ok-add.ensures.ok in
     let inside : All (IsWithin (p.next_call + 1) (begun_by c.args.blocking p.next_call)) (contexts_of c.add.new.contexts) =
-      issued_contexts p ts c.add.new.contexts c.args.context c.args.plan c.args.blocking c.self.invariant refl c.requires.copies is
+    issued_contexts p ts c.add.new.contexts c.args.context c.args.plan c.args.blocking c.self.invariant refl c.requires.copies is
     in
     record {
       regions = c.self.invariant.regions;
