@@ -6,7 +6,7 @@ use Rattle.std.proofs.lemmas.Bool.{ltb-true, ltb-false}
 use Rattle.std.proofs.lemmas.List.Splits.{slice_split_none, slice_split_first}
 use Rattle.std.proofs.lemmas.List.Sums.{fails_before_first}
 use Rattle.std.proofs.lemmas.List.{take_all}
-use Rattle.fam_script.specs.Reading.{parts, two_of, four_of}
+use Rattle.fam_script.specs.Reading.{parts, one_of}
 use Rattle.fam_script.proofs.Tests.{some_is}
 
 abbrev some : ℕ → Option ℕ
@@ -56,19 +56,6 @@ first_part separator [] = ([], [], refl)
 first_part separator (x ∷ bytes) =
     either_has_first (x == separator) ([] ∷ parts separator bytes) (onto_first x (parts separator bytes)) ([], parts separator bytes, refl) (onto_has_first x (parts separator bytes))
 
--- three words are not two
-pub not_two : (a b rest : List ℕ) → two_of (a ∷ b ∷ parts 32 rest) ≡ None
-not_two a b rest = let more = first_part 32 rest in ap (λ (ws : List (List ℕ)). two_of (a ∷ b ∷ ws)) more.2
-
-abbrev pair : List ℕ → List ℕ → Option (List ℕ × List ℕ)
-pair a b = Some (a, b)
-
-abbrev four : List ℕ → List ℕ → List ℕ → List ℕ → Option (List ℕ × List ℕ × List ℕ × List ℕ)
-four a b c d = Some (a, b, c, d)
-
--- two words, and two words behind them
-pub four_from_two : (a b c d : List ℕ) (words : List (List ℕ)) → two_of words ≡ pair c d → four_of (a ∷ b ∷ words) ≡ four a b c d
-four_from_two a b c d [] e = absurd cc
-four_from_two a b c d (x ∷ []) e = absurd cc
-four_from_two a b c d (x ∷ y ∷ []) e = let same = some_is (x, y) (c, d) e in ap (λ (w : List ℕ × List ℕ). four a b w.0 w.1) same
-four_from_two a b c d (x ∷ y ∷ z ∷ rest) e = absurd cc
+-- two words are not one
+pub not_one : (a rest : List ℕ) → one_of (a ∷ parts 32 rest) ≡ None
+not_one a rest = let more = first_part 32 rest in ap (λ (ws : List (List ℕ)). one_of (a ∷ ws)) more.2

@@ -1,11 +1,11 @@
 -- Numbers read from their decimal digits.
-use Rattle.std.proofs.Common.{◌≡◌, ℕ, ◌<◌, ◌^◌, Bool, true, false, List, Option, Some, None, Result, Ok, refl, sym, ap, subst, ◌∙◌}
+use Rattle.std.proofs.Common.{◌≡◌, ℕ, ◌<◌, ◌≤◌, ◌^◌, Bool, true, false, List, Option, Some, None, Result, Ok, refl, sym, ap, subst, ◌∙◌, lit≤, lt_of_lt_of_le}
 use Rattle.std.specs.Prelude.{nat_lt, ◌&&◌, ◌≢◌, IfSome, IfNone}
 use Rattle.std.specs.Str.{bytes_eq, IsUtf8}
 use Rattle.std.specs.Str.Parse.{digits_value, ParsesUnsigned}
 use Rattle.std.specs.Fmt.{decimal}
 use Rattle.std.proofs.lemmas.Bool.{ltb-true, lt-ltb}
-use Rattle.std.proofs.lemmas.Fmt.{decimal_is_IsNumeral, parse-decimal, IsAscii-decimal}
+use Rattle.std.proofs.lemmas.Fmt.{decimal_is_IsNumeral_wide, parse-decimal_wide, IsAscii-decimal_wide}
 use Rattle.std.proofs.lemmas.Str.{IsUtf8-from_ascii}
 use Rattle.fam_model.specs.Lists.{when}
 use Rattle.fam_script.specs.Reading.{number_of}
@@ -14,43 +14,60 @@ use Rattle.fam_script.proofs.Tests.{and_left, and_right, and_both, when_true, sa
 abbrev number : ℕ → Option ℕ
 number n = Some n
 
--- a number is read from its digits
+-- the number of k bits whose digits these are
+abbrev read_of : ℕ → List ℕ → Option ℕ
+read_of k word = let n = digits_value 10 word in when (nat_lt n (2 ^ k) && bytes_eq (decimal n) word) n
+
+module _ (k : ℕ) (few : 2 ^ k ≤ 10 ^ 64) where
+  short : (n : ℕ) → n < 2 ^ k → n < 10 ^ 64
+  short n low = lt_of_lt_of_le low few
+
+  -- a number is read from its digits
+  pub read_back : (n : ℕ) → n < 2 ^ k → read_of k (decimal n) ≡ Some n
+  read_back n low =
+      let value : digits_value 10 (decimal n) ≡ n = (decimal_is_IsNumeral_wide n (short n low)).1 in
+      ap (λ (m : ℕ). when (nat_lt m (2 ^ k) && bytes_eq (decimal m) (decimal n)) m) value
+      ∙ when_true (nat_lt n (2 ^ k) && bytes_eq (decimal n) (decimal n)) n (and_both (nat_lt n (2 ^ k)) (bytes_eq (decimal n) (decimal n)) (lt-ltb n (2 ^ k) low) (bytes_same (decimal n) (decimal n) refl))
+
+  pub read_some : (word : List ℕ) (n : ℕ) → n < 2 ^ k → decimal n ≡ word → number n ≡ read_of k word
+  read_some word n low e = sym (ap (read_of k) (sym e) ∙ read_back n low)
+
+  -- a word that is no number's
+  read_none : (word : List ℕ) → ((n : ℕ) → n < 2 ^ k → decimal n ≡ word → ⊥) → None ≡ read_of k word
+  read_none word never = sym (by_test (digits_value 10 word) (never (digits_value 10 word)) (nat_lt (digits_value 10 word) (2 ^ k) && bytes_eq (decimal (digits_value 10 word)) word) refl)
+    where
+      by_test : (n : ℕ) → (n < 2 ^ k → decimal n ≡ word → ⊥) → (b : Bool) → (nat_lt n (2 ^ k) && bytes_eq (decimal n) word) ≡ b → when b n ≡ None
+      by_test n not_it true h =
+          absurd (not_it (ltb-true _ _ (and_left (nat_lt n (2 ^ k)) (bytes_eq (decimal n) word) h))
+          (same_bytes (decimal n) word (and_right (nat_lt n (2 ^ k)) (bytes_eq (decimal n) word) h)))
+      by_test n not_it false h = refl
+
+  -- bytes that are no text
+  pub no_text : (word : List ℕ) → (IsUtf8 word → ⊥) → None ≡ read_of k word
+  no_text word not_text = read_none word (λ n low e. not_text (subst IsUtf8 e (IsUtf8-from_ascii (decimal n) (IsAscii-decimal_wide n (short n low)))))
+
+  -- a text that is no number
+  pub not_parsed : {E : Type 0} (word text : List ℕ) (result : Result ℕ E) → text ≡ word → ParsesUnsigned k 10 text result → ((n : ℕ) → result ≡ Ok n → ⊥) → None ≡ read_of k word
+  not_parsed word text result same parses never =
+      read_none word (λ n low e. never n (parse-decimal_wide k n text result low (short n low) (same ∙ sym e) parses))
+
+  -- a number that is written otherwise
+  pub not_printed : {E : Type 0} (word text : List ℕ) (value : ℕ) (result : Result ℕ E) → text ≡ word → result ≡ Ok value → ParsesUnsigned k 10 text result → bytes_eq (decimal value) word ≡ false → None ≡ read_of k word
+  not_printed {E} word text value result same is parses differs =
+      read_none word (λ n low e.
+      let found : result ≡ Ok n = parse-decimal_wide k n text result low (short n low) (same ∙ sym e) parses in
+      let value-is : value ≡ n = cc in
+      let never : true ≡ false = sym (bytes_same (decimal value) word (ap decimal value-is ∙ e)) ∙ differs in
+      absurd (cc never))
+
+pub few_64 : 2 ^ 64 ≤ 10 ^ 64
+few_64 = lit≤ tt
+
+pub few_128 : 2 ^ 128 ≤ 10 ^ 64
+few_128 = lit≤ tt
+
 pub number_back : (n : ℕ) → n < 2 ^ 64 → number_of (decimal n) ≡ Some n
-number_back n low =
-    let value : digits_value 10 (decimal n) ≡ n = (decimal_is_IsNumeral n low).1 in
-    ap (λ (m : ℕ). when (nat_lt m (2 ^ 64) && bytes_eq (decimal m) (decimal n)) m) value
-    ∙ when_true (nat_lt n (2 ^ 64) && bytes_eq (decimal n) (decimal n)) n (and_both (nat_lt n (2 ^ 64)) (bytes_eq (decimal n) (decimal n)) (lt-ltb n (2 ^ 64) low) (bytes_same (decimal n) (decimal n) refl))
-
-pub number_some : (word : List ℕ) (n : ℕ) → n < 2 ^ 64 → decimal n ≡ word → number n ≡ number_of word
-number_some word n low e = sym (ap number_of (sym e) ∙ number_back n low)
-
--- a word that is no number's
-pub number_none : (word : List ℕ) → ((n : ℕ) → n < 2 ^ 64 → decimal n ≡ word → ⊥) → None ≡ number_of word
-number_none word never = sym (by_test (digits_value 10 word) (never (digits_value 10 word)) (nat_lt (digits_value 10 word) (2 ^ 64) && bytes_eq (decimal (digits_value 10 word)) word) refl)
-  where
-    by_test : (n : ℕ) → (n < 2 ^ 64 → decimal n ≡ word → ⊥) → (b : Bool) → (nat_lt n (2 ^ 64) && bytes_eq (decimal n) word) ≡ b → when b n ≡ None
-    by_test n not_it true h =
-        absurd (not_it (ltb-true _ _ (and_left (nat_lt n (2 ^ 64)) (bytes_eq (decimal n) word) h))
-        (same_bytes (decimal n) word (and_right (nat_lt n (2 ^ 64)) (bytes_eq (decimal n) word) h)))
-    by_test n not_it false h = refl
-
--- bytes that are no text
-pub no_text : (word : List ℕ) → (IsUtf8 word → ⊥) → None ≡ number_of word
-no_text word not_text = number_none word (λ n low e. not_text (subst IsUtf8 e (IsUtf8-from_ascii (decimal n) (IsAscii-decimal n low))))
-
--- a text that is no number
-pub not_parsed : {E : Type 0} (word text : List ℕ) (result : Result ℕ E) → text ≡ word → ParsesUnsigned 64 10 text result → ((n : ℕ) → result ≡ Ok n → ⊥) → None ≡ number_of word
-not_parsed word text result same parses never =
-    number_none word (λ n low e. never n (parse-decimal 64 n text result low low (same ∙ sym e) parses))
-
--- a number that is written otherwise
-pub not_printed : {E : Type 0} (word text : List ℕ) (value : ℕ) (result : Result ℕ E) → text ≡ word → result ≡ Ok value → ParsesUnsigned 64 10 text result → bytes_eq (decimal value) word ≡ false → None ≡ number_of word
-not_printed {E} word text value result same is parses differs =
-    number_none word (λ n low e.
-    let found : result ≡ Ok n = parse-decimal 64 n text result low low (same ∙ sym e) parses in
-    let value-is : value ≡ n = cc in
-    let never : true ≡ false = sym (bytes_same (decimal value) word (ap decimal value-is ∙ e)) ∙ differs in
-    absurd (cc never))
+number_back n low = read_back 64 few_64 n low
 
 -- what is read of a word is its number
 pub number_is : (word : List ℕ) → IfSome (number_of word) (λ n. (n < 2 ^ 64) × (word ≡ decimal n))

@@ -1,29 +1,80 @@
 -- One step of a scan.
-use Rattle.std.proofs.Common.{◌≡◌, ℕ, ◌+◌, List, ◌∷◌, Option, Some, None, Result, Err, sym, ap, ◌∙◌}
+use Rattle.std.proofs.Common.{◌≡◌, ℕ, suc, ◌+◌, ◌-◌, List, [], ◌∷◌, length, take, drop, Option, Some, None, Result, Ok, Err, refl, sym, ap, ◌∙◌, arith}
+use Rattle.std.specs.Prelude.{MatchOption}
+use Rattle.std.specs.List.{flat_map}
+use Rattle.std.proofs.lemmas.List.{append-nil}
 use Rattle.fam_model.specs.declared.script.Script.{Script}
-use Rattle.fam_script.specs.declared.script.reading.Reading.{Reading}
+use Rattle.fam_script.specs.declared.script.form.Form.{Form}
+use Rattle.fam_script.specs.BadLine.{whole_lines}
+use Rattle.fam_script.specs.Machine.{Reading}
+use Rattle.fam_script.specs.Parsing.{rest_of, ended_with, and_then, step_text, scan}
 use Rattle.fam_script.specs.Reading.{parts}
-use Rattle.fam_script.specs.Machine.{step_text_of, and_then, scan}
+use Rattle.fam_script.specs.Views.{view_reading}
+use Rattle.fam_script.specs.declared.script.reading.Reading.{Reading as LinesSoFar}
 use Rattle.fam_script.proofs.Cuts.{first_part}
+use Rattle.fam_script.proofs.Tests.{some_is}
 
--- behind a text that ends in a line feed
-abbrev goes_on : ℕ → Reading → List ℕ → List ℕ → Result Script ℕ
-goes_on n reading text rest = and_then n (step_text_of reading text) (λ next. scan (n + 1) next (parts 10 rest))
+abbrev Texts : Type 0
+Texts = List (List ℕ)
 
-scan-cons : (n : ℕ) (reading : Reading) (text rest : List ℕ) → scan n reading (text ∷ parts 10 rest) ≡ goes_on n reading text rest
-scan-cons n reading text rest =
-    let more = first_part 10 rest in
-    ap (λ (ws : List (List ℕ)). scan n reading (text ∷ ws)) more.2
-    ∙ sym (ap (λ (ws : List (List ℕ)). and_then n (step_text_of reading text) (λ next. scan (n + 1) next ws)) more.2)
+abbrev fronts : Texts → Texts
+fronts ws = take (length ws - 1) ws
 
-module _ (n : ℕ) (reading : Reading) (bytes text rest : List ℕ) (cut : parts 10 bytes ≡ text ∷ parts 10 rest) where
-  cut_scan : (o : Option Reading) → step_text_of reading text ≡ o → scan n reading (parts 10 bytes) ≡ and_then n o (λ next. scan (n + 1) next (parts 10 rest))
-  cut_scan o e =
-      ap (scan n reading) cut ∙ scan-cons n reading text rest
-      ∙ ap (λ (o : Option Reading). and_then n o (λ next. scan (n + 1) next (parts 10 rest))) e
+abbrev lasts : Texts → List ℕ
+lasts ws = flat_map (λ part. part) (drop (length ws - 1) ws)
 
-  pub scan_step : (next : Reading) → step_text_of reading text ≡ Some next → scan n reading (parts 10 bytes) ≡ scan (n + 1) next (parts 10 rest)
-  scan_step next e = cut_scan (Some next) e
+one_more : (text w : List ℕ) (ws : Texts) → length (text ∷ w ∷ ws) - 1 ≡ suc (length (w ∷ ws) - 1)
+one_more text w ws = omega arith
 
-  pub scan_bad : step_text_of reading text ≡ None → scan n reading (parts 10 bytes) ≡ Err (n + 1)
-  scan_bad e = cut_scan None e
+module _ (bytes text rest : List ℕ) (cut : parts 10 bytes ≡ text ∷ parts 10 rest) where
+  cut_whole : whole_lines bytes ≡ text ∷ whole_lines rest
+  cut_whole =
+      let more = first_part 10 rest in
+      let w = more.0 in
+      let ws = more.1 in
+      ap fronts cut ∙ ap (λ (vs : Texts). fronts (text ∷ vs)) more.2
+      ∙ ap (λ (n : ℕ). take n (text ∷ w ∷ ws)) (one_more text w ws)
+      ∙ ap (λ (vs : Texts). text ∷ fronts vs) (sym more.2)
+
+  cut_rest : rest_of bytes ≡ rest_of rest
+  cut_rest =
+      let more = first_part 10 rest in
+      let w = more.0 in
+      let ws = more.1 in
+      ap lasts cut ∙ ap (λ (vs : Texts). lasts (text ∷ vs)) more.2
+      ∙ ap (λ (n : ℕ). flat_map (λ part. part) (drop n (text ∷ w ∷ ws))) (one_more text w ws)
+      ∙ ap lasts (sym more.2)
+
+  module _ (form : Form) (n : ℕ) (reading : Reading) where
+    cut_scan : (o : Option Reading) → step_text form reading text ≡ o →
+        scan form n reading (whole_lines bytes) (rest_of bytes) ≡ and_then n o (λ next. scan form (n + 1) next (whole_lines rest) (rest_of rest))
+    cut_scan o e =
+        (λ i. scan form n reading (cut_whole i) (cut_rest i))
+        ∙ ap (λ (o : Option Reading). and_then n o (λ next. scan form (n + 1) next (whole_lines rest) (rest_of rest))) e
+
+    pub scan_step : (next : Reading) → step_text form reading text ≡ Some next → scan form n reading (whole_lines bytes) (rest_of bytes) ≡ scan form (n + 1) next (whole_lines rest) (rest_of rest)
+    scan_step next e = cut_scan (Some next) e
+
+    pub scan_bad : step_text form reading text ≡ None → scan form n reading (whole_lines bytes) (rest_of bytes) ≡ Err (n + 1)
+    scan_bad e = cut_scan None e
+
+-- no line feed any more
+pub scan_end : (form : Form) (n : ℕ) (reading : Reading) (bytes : List ℕ) → parts 10 bytes ≡ bytes ∷ [] → scan form n reading (whole_lines bytes) (rest_of bytes) ≡ ended_with n reading bytes
+scan_end form n reading bytes last =
+    let whole : whole_lines bytes ≡ [] = ap fronts last in
+    let rest : rest_of bytes ≡ bytes = ap lasts last ∙ append-nil bytes in
+    λ i. scan form n reading (whole i) (rest i)
+
+-- the step of a line, from what the code made of it
+
+module _ (form : Form) (before : Reading) (text : List ℕ) where
+  abbrev pub Made : Option LinesSoFar → Type 0
+  Made o = MatchOption o (step_text form before text ≡ None) (λ now. step_text form before text ≡ Some (view_reading now))
+
+  pub none_made : (o : Option LinesSoFar) → Made o → o ≡ None → step_text form before text ≡ None
+  none_made None made e = made
+  none_made (Some now) made e = absurd cc
+
+  pub some_made : (o : Option LinesSoFar) (next : LinesSoFar) → Made o → o ≡ Some next → step_text form before text ≡ Some (view_reading next)
+  some_made None next made e = absurd cc
+  some_made (Some now) next made e = made ∙ ap (λ (r : LinesSoFar). Some (view_reading r)) (some_is now next e)

@@ -1,5 +1,5 @@
 -- Tests that are true, and steps that gave a value.
-use Rattle.std.proofs.Common.{◌≡◌, Bool, true, false, ◌&&◌, List, [], ◌∷◌, ◌++◌, ℕ, Option, Some, None, refl, ◌∙◌}
+use Rattle.std.proofs.Common.{◌≡◌, Bool, true, false, ◌&&◌, List, [], ◌∷◌, ◌++◌, ℕ, Option, Some, None, refl, sym, ◌∙◌}
 use Rattle.std.specs.List.{list_all}
 use Rattle.std.specs.Str.{bytes_eq}
 use Rattle.std.proofs.lemmas.List.Folds.{list_all-append}
@@ -23,6 +23,12 @@ module _ {X : Type 0} (p : X → Bool) where
   pub all_both : (xs ys : List X) → list_all p xs ≡ true → list_all p ys ≡ true → list_all p (xs ++ ys) ≡ true
   all_both xs ys a b = list_all-append p xs ys ∙ and_both (list_all p xs) (list_all p ys) a b
 
+  pub all_left : (xs ys : List X) → list_all p (xs ++ ys) ≡ true → list_all p xs ≡ true
+  all_left xs ys a = and_left (list_all p xs) (list_all p ys) (sym (list_all-append p xs ys) ∙ a)
+
+  pub all_right : (xs ys : List X) → list_all p (xs ++ ys) ≡ true → list_all p ys ≡ true
+  all_right xs ys a = and_right (list_all p xs) (list_all p ys) (sym (list_all-append p xs ys) ∙ a)
+
   pub all_one : (x : X) → p x ≡ true → list_all p (x ∷ []) ≡ true
   all_one x a = and_both (p x) true a refl
 
@@ -33,6 +39,9 @@ all_same p q h (x ∷ xs) a =
 
 abbrev some : {A : Type 0} → A → Option A
 some x = Some x
+
+abbrev none : {A : Type 0} → Option A
+none = None
 
 pub some_is : {A : Type 0} (x y : A) → some x ≡ some y → x ≡ y
 some_is x y e = cc

@@ -1,26 +1,59 @@
--- The line at which bytes stop being the beginning of a script that is played.
-use Rattle.std.specs.Prelude.{ℕ, ◌-◌, ◌<◌, ◌≤◌, ◌==◌, List, ◌++◌, length, take}
-use Rattle.std.specs.List.{slice_split}
+-- The line at which bytes stop being the beginning of a script.
+use Rattle.std.specs.Prelude.{◌≡◌, ℕ, ◌-◌, ◌<◌, ◌≤◌, ◌==◌, Bool, true, false, List, ◌++◌, filter, length, map, take, IsTrue}
+use Rattle.std.specs.List.{list_all, slice_split}
+use Rattle.fam_model.specs.declared.line.Line.{Line}
+use Rattle.fam_model.specs.declared.line.Line.TheVariants as line
+use Rattle.fam_model.specs.declared.script.Program.{Program}
 use Rattle.fam_model.specs.declared.script.Script.{Script}
-use Rattle.fam_model.specs.Words.{text_of}
-use Rattle.fam_script.specs.Form.{IsPlayedScript}
+use Rattle.fam_model.specs.Grammar.{is_within, IsLawfulButCount}
+use Rattle.fam_model.specs.ScriptText.{line_text, script_lines}
+use Rattle.fam_script.specs.declared.script.form.Form.{Form}
+use Rattle.fam_script.specs.declared.script.form.Form.TheVariants.{Played}
+use Rattle.fam_script.specs.Form.{allows, most_programs, most_statements, IsScriptOf}
 
 -- the lines that have their line feed
 abbrev pub whole_lines : List ℕ → List (List ℕ)
 whole_lines bytes = let parts = slice_split (λ b. b == 10) bytes in take (length parts - 1) parts
 
--- bytes with which the text of a script that is played begins
-pub record IsBeginning (front : List ℕ) : Type 0 where
-  pub rest : List ℕ
+-- there are so many whole lines, and some text begins with them
+abbrev pub BeginsAt : (List (List ℕ) → Type 0) → List ℕ → ℕ → Type 0
+BeginsAt Begins bytes n = (n ≤ length (whole_lines bytes)) × Begins (take n (whole_lines bytes))
+
+-- n is the least number of lines with which no text begins
+pub record IsFirstBadLine (Begins : List (List ℕ) → Type 0) (bytes : List ℕ) (n : ℕ) : Type 0 where
+  pub before : (k : ℕ) → k < n → BeginsAt Begins bytes k
+  pub here : ¬ BeginsAt Begins bytes n
+
+-- the line that ends a program
+abbrev pub is_end : Line → Bool
+is_end line.End = true
+is_end _ = false
+
+-- the programs whose `end` is among these lines, the first ones of the script
+abbrev pub ended : List Line → Script → List Program
+ended lines script = take (length (filter is_end lines)) script.programs
+
+-- A script begins with these lines. How many statements a program has matters only where its `end` is among them.
+pub record BeginsWith (form : Form) (script : Script) (lines : List Line) : Type 0 where
+  pub lawful : IsLawfulButCount script
+  pub allowed : IsTrue (list_all (allows form) (script_lines script))
+  pub programs : length script.programs ≤ most_programs form
+  pub rest : List Line
+  pub begins : script_lines script ≡ lines ++ rest
+  pub count : IsTrue (list_all (is_within (most_statements form)) (ended lines script))
+
+-- these texts are lines with which a script of this form begins
+pub record BeginsScript (form : Form) (texts : List (List ℕ)) : Type 0 where
+  pub lines : List Line
   pub script : Script
-  pub whole : IsPlayedScript (front ++ rest) script
+  pub beginning : BeginsWith form script lines
+  pub text : texts ≡ map line_text lines
 
--- there are so many whole lines, and a script begins with them
-abbrev pub BeginsAt : List ℕ → ℕ → Type 0
-BeginsAt bytes n = (n ≤ length (whole_lines bytes)) × IsBeginning (text_of (take n (whole_lines bytes)))
+-- the bytes are no script of this form, and this is the least number of lines with which none begins
+pub record IsBadLineOf (form : Form) (bytes : List ℕ) (n : ℕ) : Type 0 where
+  pub no_script : (script : Script) → ¬ IsScriptOf form bytes script
+  pub first : IsFirstBadLine (BeginsScript form) bytes n
 
--- the bytes are no script that is played, and n is the least number of lines with which none begins
-pub record IsBadLine (bytes : List ℕ) (n : ℕ) : Type 0 where
-  pub no_script : (script : Script) → ¬ IsPlayedScript bytes script
-  pub before : (k : ℕ) → k < n → BeginsAt bytes k
-  pub here : ¬ BeginsAt bytes n
+-- the bad line of what is no script that is played
+abbrev pub IsBadLine : List ℕ → ℕ → Type 0
+IsBadLine bytes n = IsBadLineOf Played bytes n

@@ -1,15 +1,18 @@
--- Which scripts are played.
-use Rattle.std.specs.Prelude.{ℕ, ◌+◌, ◌%◌, Bool, false, ◌==◌, ◌&&◌, ◌||◌, nat_le, nat_lt, List, length, IsTrue}
+-- Which scripts are read: any, or those that are played. What is played is said here alone.
+use Rattle.std.specs.Prelude.{ℕ, ◌+◌, ◌%◌, Bool, true, false, ◌==◌, ◌&&◌, ◌||◌, nat_le, nat_lt, List, length, IsTrue}
 use Rattle.std.specs.List.{list_all}
 use Rattle.fam_model.specs.declared.call.DataOp.{DataOp}
 use Rattle.fam_model.specs.declared.call.DataOp.TheVariants.{Get, Put}
 use Rattle.fam_model.specs.declared.call.Call.{Call}
 use Rattle.fam_model.specs.declared.call.Call.TheVariants.{Data}
+use Rattle.fam_model.specs.declared.line.Line.{Line}
+use Rattle.fam_model.specs.declared.line.Line.TheVariants as line
 use Rattle.fam_model.specs.declared.service.Service.{Service}
-use Rattle.fam_model.specs.declared.script.Statement.{Statement, One}
-use Rattle.fam_model.specs.declared.script.Program.{Program}
 use Rattle.fam_model.specs.declared.script.Script.{Script}
-use Rattle.fam_model.specs.Grammar.{IsScript}
+use Rattle.fam_model.specs.Grammar.{max_programs, max_count, is_within, IsScript}
+use Rattle.fam_model.specs.ScriptText.{script_lines}
+use Rattle.fam_script.specs.declared.script.form.Form.{Form}
+use Rattle.fam_script.specs.declared.script.form.Form.TheVariants.{Grammar, Played}
 
 -- the bytes of the common item
 abbrev pub item_size : ℕ
@@ -18,10 +21,6 @@ item_size = 4096
 -- the bytes of a unit of memory
 abbrev pub unit_size : ℕ
 unit_size = 64
-
--- statements of a program
-abbrev pub max_statements : ℕ
-max_statements = 64
 
 -- one server of one stripe, and the least unit
 abbrev pub is_played_service : Service → Bool
@@ -50,22 +49,44 @@ abbrev pub is_played_call : Call → Bool
 is_played_call (Data context op blocking) = context == 0 && blocking && is_played_op op
 is_played_call _ = false
 
--- a statement that is one such call
-abbrev pub is_played_statement : Statement → Bool
-is_played_statement (One asked) = is_played_call asked
-is_played_statement _ = false
+-- a line that a script which is played may have
+abbrev pub is_played_line : Line → Bool
+is_played_line (line.Service service) = is_played_service service
+is_played_line (line.One asked) = is_played_call asked
+is_played_line (line.Spin context item offset width value tries) = false
+is_played_line (line.Repeat times) = false
+is_played_line _ = true
 
--- few such statements
-abbrev pub is_played_program : Program → Bool
-is_played_program program =
-    nat_le (length program.statements) max_statements && list_all is_played_statement program.statements
+-- a line of a script of this form
+abbrev pub allows : Form → Line → Bool
+allows Grammar l = true
+allows Played l = is_played_line l
 
--- the service, and one such program at most
+-- programs of a script of this form, at most
+abbrev pub most_programs : Form → ℕ
+most_programs Grammar = max_programs
+most_programs Played = 1
+
+-- statements of a program, at most
+abbrev pub most_statements : Form → ℕ
+most_statements Grammar = max_count
+most_statements Played = 64
+
+-- a script of this form
+abbrev pub is_of : Form → Script → Bool
+is_of form script =
+    list_all (allows form) (script_lines script) && nat_le (length script.programs) (most_programs form)
+    && list_all (is_within (most_statements form)) script.programs
+
+-- the bytes are the text of that script, and it is of this form
+pub record IsScriptOf (form : Form) (bytes : List ℕ) (script : Script) : Type 0 where
+  pub script_text : IsScript bytes script
+  pub of_form : IsTrue (is_of form script)
+
+-- a script that is played
 abbrev pub is_played : Script → Bool
-is_played script =
-    is_played_service script.service && nat_le (length script.programs) 1 && list_all is_played_program script.programs
+is_played script = is_of Played script
 
 -- the bytes are the text of that script, and it is played
-pub record IsPlayedScript (bytes : List ℕ) (script : Script) : Type 0 where
-  pub script_text : IsScript bytes script
-  pub played : IsTrue (is_played script)
+abbrev pub IsPlayedScript : List ℕ → Script → Type 0
+IsPlayedScript bytes script = IsScriptOf Played bytes script

@@ -1,68 +1,102 @@
--- How lines are read in turn. A reader need not believe any of this: it is proved that the scripts that are played, and no other bytes, are read so.
-use Rattle.std.specs.Prelude.{ℕ, ◌+◌, Bool, true, false, nat_lt, ◌==◌, List, [], ◌∷◌, ◌++◌, length, Option, Some, None, Result, Ok, Err, if◌then◌else◌}
-use Rattle.fam_model.specs.declared.service.Service.{Service}
-use Rattle.fam_model.specs.declared.script.Statement.TheVariants as statement
-use Rattle.fam_model.specs.declared.script.Program.{Program}
-use Rattle.fam_model.specs.declared.script.Script.{Script}
+-- How lines are read in turn. A reader need not believe any of this: it is proved that scripts, and no other bytes, are read so.
+use Rattle.std.specs.Prelude.{ℕ, Bool, ◌&&◌, nat_le, nat_lt, List, [], ◌∷◌, ◌++◌, length, Option, Some, None}
+use Rattle.fam_base.specs.declared.naming.Who.{Who}
 use Rattle.fam_model.specs.declared.line.Line.{Line}
 use Rattle.fam_model.specs.declared.line.Line.TheVariants as line
+use Rattle.fam_model.specs.declared.service.Service.{Service}
+use Rattle.fam_model.specs.declared.script.Statement.{Statement}
+use Rattle.fam_model.specs.declared.script.Statement.TheVariants as statement
+use Rattle.fam_model.specs.declared.script.Program.{Program}
+use Rattle.fam_model.specs.Grammar.{is_line, max_nesting, program_count}
 use Rattle.fam_model.specs.Lists.{◌>>=◌, when}
-use Rattle.fam_script.specs.declared.script.reading.Reading.{Reading}
-use Rattle.fam_script.specs.declared.script.reading.Reading.TheVariants.{Nothing, Between, Inside, Whole}
-use Rattle.fam_script.specs.Form.{max_statements}
-use Rattle.fam_script.specs.Reading.{parts, line_of}
+use Rattle.fam_script.specs.declared.script.form.Form.{Form}
+use Rattle.fam_script.specs.Form.{allows, most_programs, most_statements}
 
--- the one service that is played
-abbrev pub the_service : Service
-the_service = record { servers = 1; stripes = 1; unit = 64 }
+-- an open repeat: the statements before it in its block, and its count
+pub record Open : Type 0 where
+  pub before : List Statement
+  pub times : ℕ
 
--- the lines with one more
-abbrev pub step_of : Reading → Line → Option Reading
-step_of Nothing (line.Service service) = Some (Between [])
-step_of (Between programs) (line.Pe who) =
-    when (length programs == 0) (Inside (record { who = who; statements = [] }))
-step_of (Between programs) line.Stop = Some (Whole programs)
-step_of (Inside program) (line.One asked) =
-    when (nat_lt (length program.statements) max_statements)
-    (Inside (record program { statements = program.statements ++ statement.One asked ∷ [] }))
-step_of (Inside program) line.End = Some (Between (program ∷ []))
-step_of _ _ = None
+-- a program whose `end` has not come: its open repeats, the innermost first, and the statements of the innermost block
+pub record Unfinished : Type 0 where
+  pub who : Who
+  pub open_repeats : List Open
+  pub block : List Statement
 
--- the lines with the text of one more
-abbrev pub step_text_of : Reading → List ℕ → Option Reading
-step_text_of reading text = line_of text >>= λ l. step_of reading l
+-- what the lines so far are
+pub data Reading : Type 0 where
+  Nothing : Reading
+  Between : Service → List Program → Reading
+  Inside : Service → List Program → Unfinished → Reading
+  Whole : Service → List Program → Reading
 
--- a script of so many lines
-abbrev pub script_of : ℕ → List Program → Script
-script_of lines programs = record { service = the_service; programs = programs; lines = lines }
+-- a lawful line of a script of this form
+abbrev pub has_line : Form → Line → Bool
+has_line form l = is_line l && allows form l
 
--- the script, where nothing stands behind its last line feed
-abbrev pub finished : ℕ → Reading → List ℕ → Option Script
-finished lines (Whole programs) rest = when (length rest == 0) (script_of lines programs)
-finished lines _ rest = None
+-- a program that begins
+abbrev pub begun : Who → Unfinished
+begun who = record { who = who; open_repeats = []; block = [] }
 
--- the script that is there, or the number of the line that is not
-abbrev pub ended_with : ℕ → Option Script → Result Script ℕ
-ended_with lines None = Err (lines + 1)
-ended_with lines (Some script) = Ok script
+-- the program with one statement more
+abbrev pub with_statement : Unfinished → Statement → Unfinished
+with_statement u s = record u { block = u.block ++ s ∷ [] }
 
--- there are no more parts
-abbrev pub is_last : List (List ℕ) → Bool
-is_last [] = true
-is_last (part ∷ others) = false
+-- a program's state after a line inside it
+abbrev pub opened : Unfinished → ℕ → Option Unfinished
+opened u times =
+    when (nat_lt (length u.open_repeats) max_nesting)
+    (record u { open_repeats = record { before = u.block; times = times } ∷ u.open_repeats; block = [] })
 
--- what comes of a step, whose line is bad where it cannot be made
-abbrev pub and_then : ℕ → Option Reading → (Reading → Result Script ℕ) → Result Script ℕ
-and_then lines None others = Err (lines + 1)
-and_then lines (Some next) others = others next
+-- the innermost repeat closed: it is a statement of the block around it
+abbrev pub closed : Unfinished → List Open → Option Unfinished
+closed u [] = None
+closed u (o ∷ outer) =
+    Some (record u { open_repeats = outer; block = o.before ++ statement.Repeat o.times u.block ∷ [] })
 
--- what the parts from here on make of the lines so far
-abbrev pub scan : ℕ → Reading → List (List ℕ) → Result Script ℕ
-scan lines reading [] = Err (lines + 1)
-scan lines reading (text ∷ others) =
-    if is_last others then ended_with lines (finished lines reading text)
-    else and_then lines (step_text_of reading text) (λ next. scan (lines + 1) next others)
+-- the program after a line inside it
+abbrev pub inside_step : Unfinished → Line → Option Unfinished
+inside_step u (line.One asked) = Some (with_statement u (statement.One asked))
+inside_step u (line.Spin context item offset width value tries) =
+    Some (with_statement u (statement.Spin context item offset width value tries))
+inside_step u (line.Repeat times) = opened u times
+inside_step u line.Done = closed u u.open_repeats
+inside_step u _ = None
 
--- the script that the bytes are, or the number of their bad line
-abbrev pub parse_of : List ℕ → Result Script ℕ
-parse_of bytes = scan 0 Nothing (parts 10 bytes)
+-- the program that ends here; a repeat that is open and too many statements are found now
+abbrev pub finished : ℕ → Who → List Open → List Statement → Option Program
+finished limit who [] block =
+    let program : Program = record { who = who; statements = block } in when (nat_le (program_count program) limit) program
+finished limit who (o ∷ outer) block = None
+
+-- what a line of the form makes of a reading, where so many statements are a program's at most
+abbrev pub grammar_step : Form → ℕ → Reading → Line → Option Reading
+grammar_step form limit Nothing (line.Service service) = Some (Between service [])
+grammar_step form limit (Between service programs) (line.Pe who) =
+    when (nat_lt (length programs) (most_programs form))
+    (Inside service programs (begun who))
+grammar_step form limit (Between service programs) line.Stop = Some (Whole service programs)
+grammar_step form limit (Inside service programs u) line.End = do
+  program ← finished limit u.who u.open_repeats u.block
+  Some (Between service (programs ++ program ∷ []))
+grammar_step form limit (Inside service programs u) l = do
+  next ← inside_step u l
+  Some (Inside service programs next)
+grammar_step form limit _ _ = None
+
+-- what the lines are with one more; none where no script of the form goes on so
+abbrev pub step : Form → ℕ → Reading → Line → Option Reading
+step form limit reading l = do
+  good ← when (has_line form l) l
+  grammar_step form limit reading good
+
+-- lines taken in turn
+abbrev pub run : Form → ℕ → Reading → List Line → Option Reading
+run form limit reading [] = Some reading
+run form limit reading (l ∷ lines) = do
+  next ← step form limit reading l
+  run form limit next lines
+
+-- what these lines are, from the beginning
+abbrev pub read : Form → List Line → Option Reading
+read form lines = run form (most_statements form) Nothing lines

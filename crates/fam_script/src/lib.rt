@@ -1,8 +1,10 @@
-//! The scripts that are played: their form, and their parser.
+//! Scripts: their text, its grammar, and their parser.
 #![tactic(auto)]
 
 mod number;
+pub mod printing;
 mod script;
 
 pub use number::number_in;
-pub use script::{ScriptFault, parse};
+pub use printing::statement;
+pub use script::{Form, ScriptFault, parse, parse_form};

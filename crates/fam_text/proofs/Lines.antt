@@ -4,8 +4,8 @@ use Rattle.std.specs.Prelude.{not}
 use Rattle.std.specs.List.{flat_map}
 use Rattle.std.proofs.lemmas.List.Concat.{flat_map-append}
 use Rattle.fam_model.specs.Words.{text_of}
-use Rattle.fam_text.specs.Spaced.{spaced}
-use Rattle.fam_text.proofs.Joined.{spaced-cons}
+use Rattle.fam_script.specs.Spaced.{spaced}
+use Rattle.fam_script.proofs.Joined.{spaced-cons}
 
 -- the words that each element gives, with a space in front of each
 pub spaced-map : {X : Type 0} (word : X → List ℕ) (xs : List X) → spaced (map word xs) ≡ flat_map (λ x. 32 ∷ word x) xs

@@ -2,8 +2,8 @@
 use Rattle.std.proofs.Common.{◌≡◌, ℕ, List, ◌∷◌, ◌++◌, append_assoc, sym, ap, ◌∙◌}
 use Rattle.std.specs.Prelude.{codes}
 use Rattle.fam_model.specs.EventText.{answered}
-use Rattle.fam_text.specs.Spaced.{spaced}
-use Rattle.fam_text.proofs.Joined.{spaced-cons, spaced-append}
+use Rattle.fam_script.specs.Spaced.{spaced}
+use Rattle.fam_script.proofs.Joined.{spaced-cons, spaced-append}
 
 -- a first word was appended, and then some others
 pub begun : (old word : List ℕ) (words : List (List ℕ)) → (old ++ (32 ∷ word)) ++ spaced words ≡ old ++ spaced (word ∷ words)

@@ -7,12 +7,10 @@ ghost use Rattle.fam_model.specs.ReportText.{report_text};
 macro_rules! push {
     ($text:ident, $($format:tt)+) => {{
         let printed = format!(in *$text.allocator(); $($format)+)?;
-        $crate::report::words::push_string($text, printed)
+        fam_script::printing::push_string($text, printed)
     }};
 }
 
-mod calls;
-mod data_calls;
 mod events;
 mod replies;
 mod rows;
@@ -21,10 +19,10 @@ mod words;
 use events::push_history;
 use fam_base::NoMemory;
 use fam_model::Report;
+use fam_script::printing::push_text;
 use replies::push_reply_lines;
 use rows::push_opening;
 use std::alloc::{AllocError, Global};
-use words::push_text;
 
 fn push_report(text: &mut Vec<u8>, report: &Report) -> Result<(), AllocError>
     ensures { OnOk result (text.new.items ≡ text.old.items ++ report_text report.now) }

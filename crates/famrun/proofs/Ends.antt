@@ -35,8 +35,8 @@ use Rattle.fam_model.specs.ReportText.{reply_lines, numbered}
 use Rattle.fam_model.specs.Rows.{common_rows}
 use Rattle.fam_model.specs.Step.{step}
 use Rattle.fam_model.specs.Text.{Once, written_out, follows, follows_after, next_of, next_call}
-use Rattle.fam_script.specs.Form.{is_played_service, is_played_statement}
-use Rattle.famrun.specs.Playing.{call_of, event_of}
+use Rattle.fam_script.specs.Form.{is_played_service}
+use Rattle.famrun.specs.Playing.{call_of, event_of, is_played_statement}
 use Rattle.famrun.specs.Running.{HasRun, EndsRun, asked, is_calm, op_of, ops_of, replies_of, line_of, lines_from}
 use Rattle.famrun.specs.Standing.{one_stripe, start, Done, program_with, state_with, AllAnswered}
 use Rattle.famrun.proofs.Follows.{turns_played, follows_on, next_leaves, and_both}

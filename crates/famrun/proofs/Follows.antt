@@ -11,8 +11,8 @@ use Rattle.fam_model.specs.declared.script.Program.{Program}
 use Rattle.fam_model.specs.declared.script.Statement.{Statement, One, Repeat', Spin}
 use Rattle.fam_model.specs.contracts.call.CallEq.TheImpl.Laws as call_laws
 use Rattle.fam_model.specs.Text.{Once, Asked, written_out, next_of, next_call, is_call, follows_after}
-use Rattle.fam_script.specs.Form.{is_played_op, is_played_statement}
-use Rattle.famrun.specs.Playing.{call_of}
+use Rattle.fam_script.specs.Form.{is_played_op}
+use Rattle.famrun.specs.Playing.{call_of, is_played_statement}
 use Rattle.famrun.specs.Running.{op_of, ops_of, asked}
 
 pub and_both : (a b : Bool) → (a && b) ≡ true → (a ≡ true) × (b ≡ true)

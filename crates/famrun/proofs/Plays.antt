@@ -1,8 +1,10 @@
 -- The player's loop, and its ends.
 use Rattle.std.proofs.Common.{◌≡◌, ℕ, zero, suc, ◌+◌, ◌<◌, ◌≤◌, true, List, [], ◌∷◌, ◌++◌, refl, sym, ap, ◌∙◌, arith, length, get_or, take, le_refl}
-use Rattle.std.specs.Prelude.{◌==◌, ◌&&◌, nat_le, Result, Ok, Err, OnOk, OnErr}
-use Rattle.std.specs.List.{list_all, enumerate_from}
+use Rattle.std.specs.Prelude.{◌==◌, ◌&&◌, nat_le, sum_by, Result, Ok, Err, OnOk, OnErr}
+use Rattle.std.specs.List.{list_all, flat_map, enumerate_from}
 use Rattle.std.proofs.lemmas.Bool.{leb-true}
+use Rattle.std.proofs.lemmas.List.Folds.{list_all-append}
+use Rattle.std.proofs.lemmas.List.Sums.{sum_by-cons}
 use Rattle.std.proofs.lemmas.List.{map-append, length-map, take_more}
 use Rattle.fam_base.specs.declared.naming.Who.{Who}
 use Rattle.fam_model.specs.declared.call.Call.{Call}
@@ -13,13 +15,18 @@ use Rattle.fam_model.specs.declared.reply.Reply.TheVariants as reply
 use Rattle.fam_model.specs.declared.report.ReplyLine.{ReplyLine}
 use Rattle.fam_model.specs.declared.script.Program.{Program}
 use Rattle.fam_model.specs.declared.script.Script.{Script}
-use Rattle.fam_model.specs.declared.script.Statement.{Statement, One}
+use Rattle.fam_model.specs.declared.script.Statement.{Statement, One, Repeat', Spin}
+use Rattle.fam_model.specs.declared.service.Service.{Service}
+use Rattle.fam_model.specs.declared.line.Line.TheVariants as line
+use Rattle.fam_model.specs.Grammar.{is_within, program_count}
 use Rattle.fam_model.specs.Headline.{IsRun}
+use Rattle.fam_model.specs.ScriptText.{statement_lines, program_lines, script_lines, call_count}
 use Rattle.fam_model.specs.History.{calls}
 use Rattle.fam_model.specs.Text.{follows}
 use Rattle.fam_model.specs.Rows.{common_rows}
-use Rattle.fam_script.specs.Form.{is_played, is_played_service, is_played_program, is_played_statement, is_played_call, is_played_op}
-use Rattle.famrun.specs.Playing.{op_made, event_of, turn_events, reply_to, bytes_after}
+use Rattle.fam_script.specs.declared.script.form.Form.TheVariants.{Played}
+use Rattle.fam_script.specs.Form.{allows, is_played, is_played_service, is_played_call, is_played_op}
+use Rattle.famrun.specs.Playing.{is_played_statement, op_made, event_of, turn_events, reply_to, bytes_after}
 use Rattle.famrun.specs.Running.{HasRun, EndsRun, op_of, ops_of, replies_of, line_of}
 use Rattle.famrun.proofs.Ends.{run_ends}
 use Rattle.famrun.proofs.Follows.{and_both}
@@ -32,19 +39,54 @@ pub record IsOne (script : Script) (program : Program) : Type 0 where
   pub few : length program.statements ≤ 64
   pub statements : list_all is_played_statement program.statements ≡ true
 
+-- statements whose lines are played are calls that are played, each of them one
+record AreOnes (statements : List Statement) : Type 0 where
+  played : list_all is_played_statement statements ≡ true
+  count : sum_by call_count statements ≡ length statements
+
+first_is : (statement : Statement) → list_all (allows Played) (statement_lines statement) ≡ true → (is_played_statement statement ≡ true) × (call_count statement ≡ 1)
+first_is (One asked) all = ((and_both (is_played_call asked) true all).0, refl)
+first_is (Repeat' times shape body) all = cc
+first_is (Spin context item offset width value tries) all = cc
+
+are_ones : (statements : List Statement) → list_all (allows Played) (flat_map statement_lines statements) ≡ true → AreOnes statements
+are_ones [] all = record { played = refl; count = refl }
+are_ones (statement ∷ statements) all =
+    let parts = and_both (list_all (allows Played) (statement_lines statement)) (list_all (allows Played) (flat_map statement_lines statements))
+    (sym (list_all-append (allows Played) (statement_lines statement) (flat_map statement_lines statements)) ∙ all) in
+    let first = first_is statement parts.0 in
+    let others = are_ones statements parts.1 in
+    record {
+      played = rw (first.0, others.played) refl;
+      count = omega (arith, sum_by-cons call_count statement statements, first.1, others.count);
+    }
+
+-- its lines are played, and its programs and their statements few
+is_one_of : (service : Service) (program : Program) → list_all (allows Played) (line.Service service ∷ (flat_map program_lines (program ∷ []) ++ line.Stop ∷ [])) ≡ true →
+    (is_within 64 program && true) ≡ true → (is_played_service service ≡ true) × (length program.statements ≤ 64) × (list_all is_played_statement program.statements ≡ true)
+is_one_of service program lines few =
+    let inside = flat_map statement_lines program.statements in
+    let service-is = and_both (is_played_service service) (list_all (allows Played) (flat_map program_lines (program ∷ []) ++ line.Stop ∷ [])) lines in
+    let around = and_both (list_all (allows Played) (flat_map program_lines (program ∷ []))) (list_all (allows Played) (line.Stop ∷ []))
+    (sym (list_all-append (allows Played) (flat_map program_lines (program ∷ [])) (line.Stop ∷ [])) ∙ service-is.1) in
+    let program-is = and_both (list_all (allows Played) (program_lines program)) (list_all (allows Played) [])
+    (sym (list_all-append (allows Played) (program_lines program) []) ∙ around.0) in
+    let body = and_both (list_all (allows Played) inside) (list_all (allows Played) (line.End ∷ []))
+    (sym (list_all-append (allows Played) inside (line.End ∷ [])) ∙ program-is.0) in
+    let ones = are_ones program.statements body.0 in
+    let count = leb-true (program_count program) 64 (and_both (is_within 64 program) true few).0 in
+    (service-is.0, omega (arith, count, ones.count), ones.played)
+
 pub is_one : (script : Script) (program : Program) → is_played script ≡ true → script.programs ≡ program ∷ [] → IsOne script program
 is_one script program played one =
-    let outer = and_both (is_played_service script.service && nat_le (length script.programs) 1) (list_all is_played_program script.programs) played in
-    let service = and_both (is_played_service script.service) (nat_le (length script.programs) 1) outer.0 in
-    let all : (is_played_program program && true) ≡ true = ap (list_all is_played_program) (sym one) ∙ outer.1 in
-    let here = and_both (is_played_program program) true all in
-    let parts = and_both (nat_le (length program.statements) 64) (list_all is_played_statement program.statements) here.0 in
-    record {
-      one = one;
-      service = service.0;
-      few = leb-true (length program.statements) 64 parts.0;
-      statements = parts.1;
-    }
+    let lines = list_all (allows Played) (script_lines script) in
+    let few = list_all (is_within 64) script.programs in
+    let outer = and_both (lines && nat_le (length script.programs) 1) few played in
+    let all = and_both lines (nat_le (length script.programs) 1) outer.0 in
+    let parts = is_one_of script.service program
+    (ap (λ (programs : List Program). list_all (allows Played) (line.Service script.service ∷ (flat_map program_lines programs ++ line.Stop ∷ []))) (sym one) ∙ all.0)
+    (ap (list_all (is_within 64)) (sym one) ∙ outer.1) in
+    record { one = one; service = parts.0; few = parts.1; statements = parts.2 }
 
 -- each statement is played
 pub all_at : (statements : List Statement) (i : ℕ) (statement : Statement) → list_all is_played_statement statements ≡ true → i < length statements →
@@ -54,6 +96,12 @@ all_at (first ∷ statements) zero statement all there e =
     ap is_played_statement e ∙ (and_both (is_played_statement first) (list_all is_played_statement statements) all).0
 all_at (first ∷ statements) (suc i) statement all there e =
     all_at statements i statement (and_both (is_played_statement first) (list_all is_played_statement statements) all).1 (omega arith) e
+
+-- it is one call
+pub some_call : (statement : Statement) → is_played_statement statement ≡ true → ((asked : Call) → statement ≡ One asked → ⊥) → ⊥
+some_call (One asked) played never = never asked refl
+some_call (Repeat' times shape body) played never = absurd cc
+some_call (Spin context item offset width value tries) played never = absurd cc
 
 played_op : (asked : Call) → is_played_call asked ≡ true → is_played_op (op_made asked) ≡ true
 played_op (call.Data context op blocking) played = (and_both (context == 0 && blocking) (is_played_op op) played).1

@@ -1,5 +1,5 @@
 -- What the player makes of one call. A reader need not believe it: what a run has to be is said by the machine.
-use Rattle.std.specs.Prelude.{◌≡◌, ℕ, ◌+◌, Bool, true, ◌==◌, ◌||◌, List, [], ◌∷◌, ◌++◌, slice_range, if◌then◌else◌}
+use Rattle.std.specs.Prelude.{◌≡◌, ℕ, ◌+◌, Bool, true, false, ◌==◌, ◌||◌, List, [], ◌∷◌, ◌++◌, slice_range, if◌then◌else◌}
 use Rattle.fam_base.specs.declared.error.FamError.TheVariants.{Range}
 use Rattle.fam_model.specs.declared.call.Call.{Call}
 use Rattle.fam_model.specs.declared.call.Call.TheVariants as call
@@ -12,9 +12,10 @@ use Rattle.fam_model.specs.declared.reply.PieceAnswer.{PieceAnswer}
 use Rattle.fam_model.specs.declared.reply.PieceAnswer.TheVariants as answer
 use Rattle.fam_model.specs.declared.reply.Reply.{Reply}
 use Rattle.fam_model.specs.declared.reply.Reply.TheVariants as reply
+use Rattle.fam_model.specs.declared.script.Statement.{Statement, One}
 use Rattle.fam_model.specs.Pieces.{moved}
 use Rattle.fam_model.specs.PieceStep.{overwritten}
-use Rattle.fam_script.specs.Form.{is_outside}
+use Rattle.fam_script.specs.Form.{is_outside, is_played_call}
 
 -- an event of the one program
 abbrev pub event_of : ℕ → What → Event
@@ -23,6 +24,11 @@ event_of n what = record { pe = record { 0 = 0 }; call = n; what = what }
 -- a call that waits, on the first context
 abbrev pub call_of : DataOp → Call
 call_of op = call.Data 0 op true
+
+-- a statement that is one call which is played
+abbrev pub is_played_statement : Statement → Bool
+is_played_statement (One asked) = is_played_call asked
+is_played_statement _ = false
 
 -- what a call moves; a call that is not played moves nothing
 abbrev pub op_made : Call → DataOp

@@ -1,16 +1,10 @@
 //! Bytes cut at a separator.
 
 ghost use Rattle.std.specs.Prelude.{◌≡◌, ◌==◌, ◌+◌, ◌≤◌, [], ◌∷◌, length, position, MatchOption, IfSome};
-ghost use Rattle.fam_script.specs.Reading.{parts, two_of, four_of};
+ghost use Rattle.fam_script.specs.Reading.{parts, one_of, two_of, three_of, four_of, five_of, six_of, seven_of};
 
-/// Four words.
-#[derive(Clone, Copy)]
-pub struct Four<'a> {
-    pub first: &'a [u8],
-    pub second: &'a [u8],
-    pub third: &'a [u8],
-    pub fourth: &'a [u8],
-}
+/// A word.
+type Word<'a> = &'a [u8];
 
 fn place(bytes: &[u8], separator: u8) -> Option<usize>
     ensures { result ≡ position (λ b. b == separator) bytes.now }
@@ -31,31 +25,87 @@ pub fn cut(bytes: &[u8], separator: u8) -> Option<(&[u8], &[u8])>
     }
 }
 
-/// Two words with a space between them.
-pub fn two_words(text: &[u8]) -> Option<(&[u8], &[u8])>
-    ensures { let words = two_of (parts 32 text.now) in
-        MatchOption result (words ≡ None) (λ p. words ≡ Some (p.0.now, p.1.now)) }
+/// One word, where there is no space.
+pub fn one_word(text: &[u8]) -> Option<&[u8]>
+    ensures { let word = one_of (parts 32 text.now) in
+        MatchOption result (word ≡ None) (λ w. word ≡ Some w.now) }
 {
-    let (first, rest) = cut(text, b' ')?;
-    match cut(rest, b' ') {
-        None => Some((first, rest)),
+    match cut(text, b' ') {
+        None => Some(text),
         Some(_) => None,
     }
 }
 
-/// Four words with a space between each two of them.
-pub fn four_words(text: &[u8]) -> Option<Four<'_>>
-    ensures { let words = four_of (parts 32 text.now) in
-        MatchOption result (words ≡ None)
-        (λ w. words ≡ Some (w.first.now, w.second.now, w.third.now, w.fourth.now)) }
+/// Two words with a space between them.
+pub fn two_words(text: &[u8]) -> Option<(Word<'_>, Word<'_>)>
+    ensures { let words = two_of (parts 32 text.now) in
+        MatchOption result (words ≡ None) (λ w. words ≡ Some (w.0.now, w.1.now)) }
 {
     let (first, rest) = cut(text, b' ')?;
-    let (second, rest) = cut(rest, b' ')?;
-    let (third, fourth) = two_words(rest)?;
-    Some(Four {
-        first,
-        second,
-        third,
-        fourth,
-    })
+    let second = one_word(rest)?;
+    Some((first, second))
+}
+
+/// Three words.
+pub fn three_words(text: &[u8]) -> Option<(Word<'_>, Word<'_>, Word<'_>)>
+    ensures { let words = three_of (parts 32 text.now) in
+        MatchOption result (words ≡ None) (λ w. words ≡ Some (w.0.now, w.1.now, w.2.now)) }
+{
+    let (first, rest) = cut(text, b' ')?;
+    let (second, third) = two_words(rest)?;
+    Some((first, second, third))
+}
+
+/// Four words.
+pub fn four_words(text: &[u8]) -> Option<(Word<'_>, Word<'_>, Word<'_>, Word<'_>)>
+    ensures { let words = four_of (parts 32 text.now) in
+        MatchOption result (words ≡ None) (λ w. words ≡ Some (w.0.now, w.1.now, w.2.now, w.3.now)) }
+{
+    let (first, rest) = cut(text, b' ')?;
+    let (second, third, fourth) = three_words(rest)?;
+    Some((first, second, third, fourth))
+}
+
+/// Five words.
+pub fn five_words(text: &[u8]) -> Option<(Word<'_>, Word<'_>, Word<'_>, Word<'_>, Word<'_>)>
+    ensures { let words = five_of (parts 32 text.now) in
+        MatchOption result (words ≡ None) (λ w. words ≡ Some (w.0.now, w.1.now, w.2.now, w.3.now, w.4.now)) }
+{
+    let (first, rest) = cut(text, b' ')?;
+    let (second, third, fourth, fifth) = four_words(rest)?;
+    Some((first, second, third, fourth, fifth))
+}
+
+/// Six words.
+pub fn six_words(
+    text: &[u8],
+) -> Option<(Word<'_>, Word<'_>, Word<'_>, Word<'_>, Word<'_>, Word<'_>)>
+    ensures { let words = six_of (parts 32 text.now) in
+        MatchOption result (words ≡ None) (λ w. words ≡ Some (w.0.now, w.1.now, w.2.now, w.3.now, w.4.now, w.5.now)) }
+{
+    let (first, rest) = cut(text, b' ')?;
+    let (second, third, fourth, fifth, sixth) = five_words(rest)?;
+    Some((first, second, third, fourth, fifth, sixth))
+}
+
+/// Seven words.
+pub fn seven_words(
+    text: &[u8],
+) -> Option<
+    (
+        Word<'_>,
+        Word<'_>,
+        Word<'_>,
+        Word<'_>,
+        Word<'_>,
+        Word<'_>,
+        Word<'_>,
+    ),
+>
+    ensures { let words = seven_of (parts 32 text.now) in
+        MatchOption result (words ≡ None) (λ w. words ≡ Some (w.0.now, w.1.now, w.2.now, w.3.now, w.4.now, w.5.now, w.6.now)) }
+{
+    let (first, rest) = cut(text, b' ')?;
+    let (second, third, fourth, fifth, sixth, seventh) = six_words(rest)?;
+    Some((first, second, third, fourth, fifth, sixth, seventh))
 }

@@ -1,145 +1,108 @@
 //! What a line says.
 
-ghost use Rattle.std.specs.Prelude.{◌≡◌, IfOk};
-ghost use Rattle.fam_script.specs.Form.{is_played_range};
-ghost use Rattle.fam_script.specs.Reading.{parts, user_of, bare_line, data_line, pe_line, get_line, put_line, is_first_slot, spoken_line, line_of};
+ghost use Rattle.std.specs.Prelude.{◌≡◌, true, IfOk, IfSome};
+ghost use Rattle.std.specs.Str.{bytes_eq};
+ghost use Rattle.fam_model.specs.Grammar.{is_line};
+ghost use Rattle.fam_model.specs.ScriptText.{line_text};
+ghost use Rattle.fam_script.specs.Reading as lines;
 
-use crate::script::cut::{Four, cut, four_words, two_words};
-use crate::script::word::{hex_bytes, number};
-use fam_base::{NoMemory, Who};
-use fam_model::{Call, DataOp, Line, Service};
+use crate::printing::{push_line, without_space};
+use crate::script::contexts::context_line;
+use crate::script::cut::cut;
+use crate::script::frames::frame_line;
+use crate::script::lawful::is_lawful;
+use crate::script::lists::list_line;
+use crate::script::moves::move_line;
+use crate::script::names::named_line;
+use crate::script::slots::slot_line;
+use fam_base::NoMemory;
+use fam_model::{Call, Line};
 use std::alloc::Global;
 
-/// What the text of a line says, if it is the text of one.
+/// What the text of a line says, if it is the text of a lawful one.
 pub fn line(alloc: Global, text: &[u8]) -> Result<Option<Line>, NoMemory>
-    ensures { IfOk result (λ l. l ≡ line_of text.now) }
+    ensures line { IfOk result (λ l. l ≡ lines.line_of text.now) }
+    ensures lawful { IfOk result (λ l. IfSome l (λ line. is_line line ≡ true)) }
 {
-    if let Some(line) = bare(text) {
+    let Some(line) = loose_line(alloc, text)? else {
+        return Ok(None);
+    };
+    if !is_lawful(&line) {
+        return Ok(None);
+    }
+    if is_text_of(alloc, &line, text)? {
+        Ok(Some(line))
+    } else {
+        Ok(None)
+    }
+}
+
+/// The text is that of the line.
+fn is_text_of(alloc: Global, line: &Line, text: &[u8]) -> Result<bool, NoMemory>
+    ensures { IfOk result (λ same. same ≡ bytes_eq (line_text line.now) text.now) }
+{
+    let mut printed = Vec::new(alloc);
+    push_line(&mut printed, line)?;
+    Ok(without_space(printed.as_slice()) == text)
+}
+
+/// What the text of a line may say.
+fn loose_line(alloc: Global, text: &[u8]) -> Result<Option<Line>, NoMemory>
+    ensures { IfOk result (λ l. l ≡ lines.loose_line text.now) }
+{
+    if let Some(line) = bare_line(text) {
         return Ok(Some(line));
     }
     match cut(text, b' ') {
         None => Ok(None),
-        Some((verb, arguments)) => spoken(alloc, verb, arguments),
+        Some((word, arguments)) => spoken_line(alloc, word, arguments),
     }
 }
 
-/// A line that has one text.
-fn bare(text: &[u8]) -> Option<Line>
-    ensures { result ≡ bare_line text.now }
+/// A line that is one word.
+fn bare_line(text: &[u8]) -> Option<Line>
+    ensures { result ≡ lines.bare_line text.now }
 {
-    if text == b"service 1 1 64".as_slice() {
-        Some(Line::Service(Service {
-            servers: 1,
-            stripes: 1,
-            unit: 64,
-        }))
-    } else if text == b"end".as_slice() {
+    if text == b"end".as_slice() {
         Some(Line::End)
+    } else if text == b"done".as_slice() {
+        Some(Line::Done)
     } else if text == b"stop".as_slice() {
         Some(Line::Stop)
+    } else if text == b"barrier".as_slice() {
+        Some(Line::One(Call::Barrier))
+    } else if text == b"crash".as_slice() {
+        Some(Line::One(Call::Crash))
     } else {
         None
     }
 }
 
 /// A line of a first word and others.
-fn spoken(alloc: Global, verb: &[u8], arguments: &[u8]) -> Result<Option<Line>, NoMemory>
-    ensures { IfOk result (λ l. l ≡ spoken_line verb.now (parts 32 arguments.now)) }
+fn spoken_line(alloc: Global, word: &[u8], arguments: &[u8]) -> Result<Option<Line>, NoMemory>
+    ensures { IfOk result (λ l. l ≡ lines.spoken_line word.now (lines.parts 32 arguments.now)) }
 {
-    if verb == b"pe".as_slice() {
-        Ok(pe(arguments))
-    } else if verb == b"get".as_slice() {
-        Ok(get(arguments))
-    } else if verb == b"put".as_slice() {
-        put(alloc, arguments)
-    } else {
-        Ok(None)
+    if let Some(line) = short_line(word, arguments) {
+        return Ok(Some(line));
     }
-}
-
-fn pe(arguments: &[u8]) -> Option<Line>
-    ensures { result ≡ pe_line (parts 32 arguments.now) }
-{
-    let (uid, gid) = two_words(arguments)?;
-    let uid = user(uid)?;
-    let gid = user(gid)?;
-    Some(Line::Pe(Who { uid, gid }))
-}
-
-/// The number of a user or a group.
-fn user(word: &[u8]) -> Option<u32>
-    ensures { result ≡ user_of word.now }
-{
-    let value = number(word)?;
-    if value < 4_294_967_295 {
-        Some(value as u32)
-    } else {
-        None
+    if let Some(line) = named_line(alloc, word, arguments)? {
+        return Ok(Some(line));
     }
+    list_line(alloc, word, arguments)
 }
 
-fn get(arguments: &[u8]) -> Option<Line>
-    ensures { result ≡ get_line (parts 32 arguments.now) }
+/// One with no list and no name.
+fn short_line(word: &[u8], arguments: &[u8]) -> Option<Line>
+    ensures { result ≡ lines.short_line word.now (lines.parts 32 arguments.now) }
 {
-    let words = four_words(arguments)?;
-    let offset = number(words.third)?;
-    let count = number(words.fourth)?;
-    if is_first(words) && is_played(offset, count) {
-        let op = DataOp::Get {
-            item: 0,
-            offset,
-            count,
-        };
-        Some(blocking(op))
-    } else {
-        None
+    if let Some(line) = frame_line(word, arguments) {
+        return Some(line);
     }
-}
-
-fn put(alloc: Global, arguments: &[u8]) -> Result<Option<Line>, NoMemory>
-    ensures { IfOk result (λ l. l ≡ put_line (parts 32 arguments.now)) }
-{
-    let Some(words) = four_words(arguments) else {
-        return Ok(None);
-    };
-    let Some(offset) = number(words.third) else {
-        return Ok(None);
-    };
-    let Some(bytes) = hex_bytes(alloc, words.fourth)? else {
-        return Ok(None);
-    };
-    if is_first(words) && is_played(offset, bytes.len() as u64) {
-        let op = DataOp::Put {
-            item: 0,
-            offset,
-            bytes,
-        };
-        Ok(Some(blocking(op)))
-    } else {
-        Ok(None)
+    if let Some(line) = slot_line(word, arguments) {
+        return Some(line);
     }
-}
-
-/// On the first context and the first item slot.
-fn is_first(words: Four<'_>) -> bool
-    ensures { result ≡ is_first_slot words.entry.first.now words.entry.second.now }
-{
-    words.first == b"c0".as_slice() && words.second == b"i0".as_slice()
-}
-
-/// A range that is played.
-fn is_played(offset: u64, count: u64) -> bool
-    ensures { result ≡ is_played_range offset count }
-{
-    count <= 64 && (offset > 4096 - count || offset % 64 + count <= 64)
-}
-
-fn blocking(op: DataOp) -> Line
-    ensures { result ≡ data_line op }
-{
-    Line::One(Call::Data {
-        context: 0,
-        op,
-        blocking: true,
-    })
+    if let Some(line) = context_line(word, arguments) {
+        return Some(line);
+    }
+    move_line(word, arguments)
 }

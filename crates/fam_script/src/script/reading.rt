@@ -1,8 +1,12 @@
 //! The lines so far.
 
-ghost use Rattle.std.specs.Prelude.{◌≡◌, ◌<◌, ◌^◌, IfOk, Some, None};
-ghost use Rattle.fam_script.specs.Machine.{step_of, finished};
+ghost use Rattle.std.specs.Prelude.{◌≡◌, true, IfOk, MatchOption, Some, None};
+ghost use Rattle.fam_model.specs.Grammar.{is_line};
+ghost use Rattle.fam_script.specs.Machine as machine;
+ghost use Rattle.fam_script.specs.Views.{view, Steps, Moves, Ends, GivesScript};
 
+use crate::script::form::Form;
+use crate::script::unfinished::Unfinished;
 use fam_base::{NoMemory, Sequence};
 use fam_model::{Line, Program, Script, Service, Statement};
 use std::alloc::Global;
@@ -13,75 +17,143 @@ pub enum Reading {
     /// There is none.
     Nothing,
     /// The service and these programs.
-    Between(Sequence<Program>),
-    /// The service and a program whose end has not come.
-    Inside(Program),
+    Between(Service, Sequence<Program>),
+    /// The service, these programs, and one whose end has not come.
+    Inside(Service, Sequence<Program>, Unfinished),
     /// A whole script.
-    Whole(Sequence<Program>),
+    Whole(Service, Sequence<Program>),
 }
 
-/// The lines with one more, if a script begins with them.
-pub fn step(alloc: Global, reading: Reading, line: Line) -> Result<Option<Reading>, NoMemory>
-    ensures { IfOk result (λ next. next ≡ step_of reading line) }
+/// The lines with one more lawful one, if a script of the form begins with them.
+pub fn step(
+    alloc: Global,
+    form: Form,
+    reading: Reading,
+    line: Line,
+) -> Result<Option<Reading>, NoMemory>
+    requires { is_line line ≡ true }
+    ensures { IfOk result (λ next. Steps form reading line next) }
 {
+    if !form.allows(&line) {
+        return Ok(None);
+    }
     match reading {
-        Reading::Nothing => Ok(first_step(alloc, line)),
-        Reading::Between(programs) => Ok(between_step(alloc, programs, line)),
-        Reading::Inside(program) => inside_step(alloc, program, line),
-        Reading::Whole(_) => Ok(None),
+        Reading::Nothing => Ok(first_step(alloc, form, line)),
+        Reading::Between(service, programs) => {
+            Ok(between_step(alloc, form, service, programs, line))
+        }
+        Reading::Inside(service, programs, program) => {
+            inside_step(alloc, form, service, programs, program, line)
+        }
+        Reading::Whole(_, _) => Ok(None),
     }
 }
 
-fn first_step(alloc: Global, line: Line) -> Option<Reading>
-    ensures { result ≡ step_of Reading.Nothing line }
+fn first_step(alloc: Global, form: Form, line: Line) -> Option<Reading>
+    ensures { Moves form machine.Nothing line result }
 {
     match line {
-        Line::Service(_) => Some(Reading::Between(Sequence::new(alloc))),
+        Line::Service(service) => Some(Reading::Between(service, Sequence::new(alloc))),
         _ => None,
     }
 }
 
-fn between_step(alloc: Global, programs: Sequence<Program>, line: Line) -> Option<Reading>
-    ensures { result ≡ step_of (Reading.Between programs) line }
+fn between_step(
+    alloc: Global,
+    form: Form,
+    service: Service,
+    programs: Sequence<Program>,
+    line: Line,
+) -> Option<Reading>
+    ensures { Moves form (machine.Between service programs) line result }
 {
     match line {
-        Line::Pe(who) if programs.is_empty() => Some(Reading::Inside(Program {
-            who,
-            statements: Sequence::new(alloc),
-        })),
-        Line::Stop => Some(Reading::Whole(programs)),
+        Line::Pe(who) if programs.len() < form.most_programs() => Some(Reading::Inside(
+            service,
+            programs,
+            Unfinished::new(alloc, who),
+        )),
+        Line::Stop => Some(Reading::Whole(service, programs)),
         _ => None,
     }
 }
 
-fn inside_step(alloc: Global, mut program: Program, line: Line) -> Result<Option<Reading>, NoMemory>
-    ensures { IfOk result (λ next. next ≡ step_of (Reading.Inside program) line) }
+fn inside_step(
+    alloc: Global,
+    form: Form,
+    service: Service,
+    programs: Sequence<Program>,
+    program: Unfinished,
+    line: Line,
+) -> Result<Option<Reading>, NoMemory>
+    ensures { IfOk result (λ next. Moves form (machine.Inside service programs (view program)) line next) }
+{
+    if let Line::End = line {
+        return end_step(form, service, programs, program);
+    }
+    match statement_step(alloc, program, line)? {
+        Some(next) => Ok(Some(Reading::Inside(service, programs, next))),
+        None => Ok(None),
+    }
+}
+
+/// The program with a line inside it.
+fn statement_step(
+    alloc: Global,
+    program: Unfinished,
+    line: Line,
+) -> Result<Option<Unfinished>, NoMemory>
+    ensures { IfOk result (λ next. MatchOption next (machine.inside_step (view program) line ≡ None) (λ u. machine.inside_step (view program) line ≡ Some (view u))) }
 {
     match line {
-        Line::One(call) if program.statements.len() < 64 => {
-            program.statements.push(Statement::One(call))?;
-            Ok(Some(Reading::Inside(program)))
+        Line::One(call) => Ok(Some(program.add(Statement::One(call), 1)?)),
+        Line::Spin {
+            context,
+            item,
+            offset,
+            width,
+            value,
+            tries,
+        } => {
+            let spin = Statement::Spin {
+                context,
+                item,
+                offset,
+                width,
+                value,
+                tries,
+            };
+            Ok(Some(program.add(spin, tries)?))
         }
-        Line::End => {
-            let mut programs = Sequence::new(alloc);
-            programs.push(program)?;
-            Ok(Some(Reading::Between(programs)))
-        }
+        Line::Repeat { times } => program.open(alloc, times),
+        Line::Done => program.close(),
         _ => Ok(None),
     }
 }
 
+/// The end of the program.
+fn end_step(
+    form: Form,
+    service: Service,
+    mut programs: Sequence<Program>,
+    program: Unfinished,
+) -> Result<Option<Reading>, NoMemory>
+    ensures { IfOk result (λ next. Ends form service programs (view program) next) }
+{
+    let Some(program) = program.finish(form.most_statements()) else {
+        return Ok(None);
+    };
+    programs.push(program)?;
+    Ok(Some(Reading::Between(service, programs)))
+}
+
 /// The script of so many lines, if it is whole and nothing stands behind its last line feed.
 pub fn finish(reading: Reading, lines: u64, rest: &[u8]) -> Option<Script>
-    ensures { result ≡ finished lines reading rest.now }
+    ensures { GivesScript lines reading rest.now result }
 {
     match reading {
-        Reading::Whole(programs) if rest.is_empty() => Some(Script {
-            service: Service {
-                servers: 1,
-                stripes: 1,
-                unit: 64,
-            },
+        Reading::Whole(service, programs) if rest.is_empty() => Some(Script {
+            service,
             programs,
             lines,
         }),

@@ -6,13 +6,13 @@ ghost use Rattle.fam_model.specs.EventText.{doubt_words, event_text, what_words}
 ghost use Rattle.fam_model.specs.ReplyText.{answer_words, error_words, reply_words};
 ghost use Rattle.fam_model.specs.ReportText.{event_lines};
 ghost use Rattle.fam_model.specs.Words.{text_of};
-ghost use Rattle.fam_text.specs.Spaced.{spaced};
+ghost use Rattle.fam_script.specs.Spaced.{spaced};
 
-use super::calls::{push_call, push_meta_call};
 use super::replies::{push_answer, push_error, push_reply};
-use super::words::{push_call_name, push_text};
+use super::words::push_call_name;
 use fam_base::FamError;
 use fam_model::{Call, Event, MetaCall, PieceAnswer, Reply, What};
+use fam_script::printing::{push_call, push_meta_call, push_text};
 use std::alloc::AllocError;
 
 /// Appends a colon and a reply.

@@ -6,11 +6,12 @@ ghost use Rattle.fam_model.specs.declared.reply.PieceAnswer.TheVariants as answe
 ghost use Rattle.fam_model.specs.ReplyText.{error_words, answer_words, result_word, reply_words};
 ghost use Rattle.fam_model.specs.ReportText.{reply_line_text};
 ghost use Rattle.fam_model.specs.Words.{text_of};
-ghost use Rattle.fam_text.specs.Spaced.{spaced};
+ghost use Rattle.fam_script.specs.Spaced.{spaced};
 
-use super::words::{hex_word, push_call_name, push_mode, push_text};
+use super::words::push_call_name;
 use fam_base::FamError;
 use fam_model::{ItemInfo, OpResult, PieceAnswer, RegionInfo, Reply, ReplyLine};
+use fam_script::printing::{hex_word, push_mode, push_text};
 use std::alloc::AllocError;
 
 /// Appends an error.

@@ -5,8 +5,8 @@ ghost use Rattle.fam_model.specs.ReportText.{item_text, opening_lines, region_te
 ghost use Rattle.fam_model.specs.Rows.{item_number, region_number};
 ghost use Rattle.fam_model.specs.Words.{text_of};
 
-use super::words::{push_mode, push_text};
 use fam_model::{ItemRow, RegionRow, Rows};
+use fam_script::printing::{push_mode, push_text};
 use std::alloc::AllocError;
 
 /// Appends a region.

@@ -2,10 +2,11 @@ use Rattle.std.proofs.Common.{◌≡◌, ◌∙◌, ◌<◌, ◌≤◌, ◌+◌,
 use Rattle.std.proofs.lemmas.List.{take_all, take-append-drop, length-take-le}
 use Rattle.fam_model.specs.declared.script.Statement.{Statement, One}
 use Rattle.std.specs.List.{list_all}
-use Rattle.fam_script.specs.Form.{is_played_call, is_played_statement}
+use Rattle.fam_script.specs.Form.{is_played_call}
+use Rattle.famrun.specs.Playing.{is_played_statement}
 use Rattle.famrun.specs.Running.{ops_of, HasRun}
 use Rattle.famrun.proofs.Ends.{run_so_far}
-use Rattle.famrun.proofs.Plays.{is_one, all_at, play_more, take_next, on_err}
+use Rattle.famrun.proofs.Plays.{is_one, all_at, some_call, play_more, take_next, on_err}
 use Rattle.famrun.proofs.play.play_program.Goals as goal
 
 pub loop-statement-init : goal.loop-statement-init
@@ -51,3 +52,23 @@ returns-clause-ok c =
     let over : length items ≤ i = c.loop-statement-test.false in
     let whole : take i items ≡ c.args.program.now.statements = take_all i items over ∙ c.as_slice-statement-items.ensures in
     subst (λ xs. HasRun c.args.program.now.who (ops_of xs) c.loop-statement.run.history.items c.loop-statement.run.lines.items c.loop-statement.run.item) whole c.loop-statement.invariant
+
+pub play_call-requires : goal.play_call-requires
+play_call-requires c =
+    let one = is_one c.args.script.now c.args.program.now c.requires.played c.requires.one in
+    let items : List Statement = c.as_slice-statement-items.result.now in
+    record {
+      played =
+          ap is_played_statement (sym c.in-One.is)
+          ∙ all_at items c.loop-statement.statement-index c.statement-item.result (ap (list_all is_played_statement) c.as_slice-statement-items.ensures ∙ one.statements)
+          c.loop-statement-test.true c.statement-item.is;
+    }
+
+pub unreachable-requires : goal.unreachable-requires
+unreachable-requires c =
+    let one = is_one c.args.script.now c.args.program.now c.requires.played c.requires.one in
+    let items : List Statement = c.as_slice-statement-items.result.now in
+    some_call c.statement-item.result
+    (all_at items c.loop-statement.statement-index c.statement-item.result (ap (list_all is_played_statement) c.as_slice-statement-items.ensures ∙ one.statements)
+    c.loop-statement-test.true c.statement-item.is)
+    c.in_default.not-One

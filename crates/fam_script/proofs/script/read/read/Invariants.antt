@@ -1,11 +1,12 @@
 use Rattle.std.proofs.Common.{◌≡◌, ◌+◌, ◌≤◌, length}
-use Rattle.fam_script.specs.Reading.{parts}
-use Rattle.fam_script.specs.Machine.{scan, parse_of}
+use Rattle.fam_script.specs.BadLine.{whole_lines}
+use Rattle.fam_script.specs.Parsing.{rest_of, scan, parse_of}
+use Rattle.fam_script.specs.Views.{view_reading}
 use Rattle.fam_script.proofs.script.read.read.Given as goal
 
 abbrev pub invariant-loop-text : goal.invariant-loop-text
 invariant-loop-text l = record {
-  same : parse_of l.fn.bytes ≡ scan l.lines l.reading (parts 10 l.rest);
+  same : parse_of l.fn.form l.fn.bytes ≡ scan l.fn.form l.lines (view_reading l.reading) (whole_lines l.rest) (rest_of l.rest);
   few : l.lines + length l.rest ≤ length l.fn.bytes;
 }
 

@@ -1,6 +1,0 @@
-use Rattle.std.proofs.Common.{append_assoc}
-use Rattle.fam_text.proofs.report.calls.push_lookup_region.Goals as goal
-
-pub returns : goal.returns
-returns c =
-    rw (c.in_ok-extend_from_slice.ensures.items, c.as_slice.ensures, c.in_ok-push_string.ensures, c.in_ok-printed.ensures.ok) (simp append_assoc)

@@ -1,7 +1,0 @@
-use Rattle.std.proofs.Common.{append_assoc}
-use Rattle.fam_text.proofs.report.data_calls.push_scatter_index.Goals as goal
-
-pub returns : goal.returns
-returns c =
-    rw (c.in_ok-push_string.ensures, c.in_ok-printed.ensures.ok, c.in_ok-hex.ensures, c.as_slice-2.ensures, c.in_ok-list.ensures, c.as_slice.ensures, c.in_ok-push_verb.ensures)
-    (simp append_assoc)

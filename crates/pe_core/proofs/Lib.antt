@@ -1,0 +1,6 @@
+pub mod Bodies
+pub mod Growing
+pub mod Orders
+pub mod Places
+pub mod Replies
+pub mod Tests
