@@ -1,6 +1,6 @@
 -- Scripts of a form, by their lines alone.
-use Rattle.std.proofs.Common.{◌≡◌, ℕ, ◌≤◌, Bool, true, ◌&&◌, List, [], ◌∷◌, ◌++◌, length, map, refl, arith}
-use Rattle.std.specs.Prelude.{nat_le, IsTrue}
+use Rattle.std.proofs.Common.{◌≡◌, ℕ, ◌≤◌, true, ◌&&◌, List, [], ◌∷◌, ◌++◌, length, map, refl, arith}
+use Rattle.std.specs.Prelude.{nat_le}
 use Rattle.std.specs.List.{list_all}
 use Rattle.std.proofs.lemmas.Bool.{leb-true, le-leb}
 use Rattle.fam_model.specs.declared.service.Service.{Service}
@@ -8,11 +8,11 @@ use Rattle.fam_model.specs.declared.script.Script.{Script}
 use Rattle.fam_model.specs.declared.line.Line.{Line}
 use Rattle.fam_model.specs.declared.line.Line.TheVariants as line
 use Rattle.fam_model.specs.ScriptText.{line_text, script_lines, script_text}
-use Rattle.fam_model.specs.Grammar.{is_line, is_shallow, is_within, max_programs, max_count, program_count, IsLawfulButCount, IsScript}
+use Rattle.fam_model.specs.Grammar.{is_line, is_shallow, is_within, max_programs, max_count, program_count, IsLawfulButCount}
 use Rattle.fam_script.specs.declared.script.form.Form.{Form}
 use Rattle.fam_script.specs.declared.script.form.Form.TheVariants.{Grammar, Played}
-use Rattle.fam_script.specs.BadLine.{whole_lines, ended, BeginsAt, IsFirstBadLine, BeginsWith, BeginsScript, IsBadLineOf}
-use Rattle.fam_script.specs.Form.{allows, most_programs, most_statements, is_of, IsScriptOf}
+use Rattle.fam_script.specs.BadLine.{ended, IsFirstBadLine, BeginsScript, IsBadLineOf}
+use Rattle.fam_script.specs.Form.{allows, most_programs, most_statements, IsScriptOf}
 use Rattle.fam_script.specs.Machine.{has_line}
 use Rattle.fam_script.proofs.Tests.{and_left, and_right, and_both, all_same}
 

@@ -1,7 +1,7 @@
 -- Each lawful line is read back from its text.
 use Rattle.std.proofs.Common.{◌≡◌, ℕ, ◌*◌, ◌%◌, ◌<◌, ◌≤◌, ◌^◌, Bool, true, false, not, List, [], ◌∷◌, length, Option, Some, None, refl, sym, ap, subst, ◌∙◌, arith, lit≤, lit<, lt_of_lt_of_le}
 use Rattle.std.specs.Prelude.{◌==◌, ◌&&◌, nat_le, nat_lt, codes, ℤ, pos}
-use Rattle.std.specs.List.{list_all, slice_split, join_with_byte}
+use Rattle.std.specs.List.{list_all, join_with_byte}
 use Rattle.std.specs.Bool.{beq}
 use Rattle.std.specs.Str.{bytes_eq}
 use Rattle.std.specs.Fmt.{decimal, signed_decimal}
@@ -29,7 +29,7 @@ use Rattle.fam_model.specs.ScriptText.{line_words, line_text}
 use Rattle.fam_model.specs.Shape.{is_slot, is_context, is_name, is_shaped, is_zero, is_short, are_few, has_arguments}
 use Rattle.fam_model.specs.Values.{is_u64, is_mode, are_bytes, call_fits, call_numbers, call_modes, call_bytes}
 use Rattle.fam_model.specs.Words.{hex_text, list_text, mode_text, region_slot_text, item_slot_text, context_text}
-use Rattle.fam_script.specs.Reading.{Words, parts, number_of, slot_of, width_of, op_of, or_else, bare_line, frame_line, service_from, pe_from, spin_from, slot_line, meta_line, resize_from, chmod_region_from, chmod_from, named_line, region_from, lookup_region_from, alloc_from, lookup_from, context_line, copy_wait_from, move_line, get_from, gather_from, copy_from, atomic_from, atomic_line, atomic_two_line, list_line, put_from, scatter_from, gather_index_from, scatter_index_from, short_line, words_line, loose_line, line_of}
+use Rattle.fam_script.specs.Reading.{Words, parts, number_of, slot_of, width_of, op_of, or_else, bare_line, frame_line, service_from, pe_from, spin_from, slot_line, meta_line, resize_from, chmod_region_from, chmod_from, named_line, region_from, lookup_region_from, alloc_from, lookup_from, context_line, copy_wait_from, move_line, get_from, gather_from, copy_from, atomic_from, atomic_line, list_line, put_from, scatter_from, gather_index_from, scatter_index_from, short_line, words_line, loose_line, line_of}
 use Rattle.fam_script.proofs.Tests.{and_left, and_right, and_both, all_both, all_same, bind_some, when_some, when_true, same_bytes, bytes_same}
 use Rattle.fam_script.proofs.Splits.{lacks, parts_back}
 use Rattle.fam_script.proofs.WordsBack.{is_printed, IsLow, low_of, decimal_printed, u64_back, small_back, byte_back, slot_of-cons, mode_back, mode_printed, hex_back, hex_printed, list_back, list_printed, signed_back, signed_printed, in_range_narrow, printed_lacks}

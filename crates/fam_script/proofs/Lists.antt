@@ -1,6 +1,5 @@
 -- Numbers that are read one after another.
 use Rattle.std.proofs.Common.{◌≡◌, ℕ, List, [], ◌∷◌, ◌++◌, Option, Some, None, refl, sym, ap, ◌∙◌, append_assoc}
-use Rattle.fam_model.specs.Lists.{◌>>=◌}
 use Rattle.fam_script.specs.Reading.{parts, number_of, onto, numbers_of}
 
 -- those that were found, and then others

@@ -1,9 +1,8 @@
 -- One step of a scan.
-use Rattle.std.proofs.Common.{◌≡◌, ℕ, suc, ◌+◌, ◌-◌, List, [], ◌∷◌, length, take, drop, Option, Some, None, Result, Ok, Err, refl, sym, ap, ◌∙◌, arith}
+use Rattle.std.proofs.Common.{◌≡◌, ℕ, suc, ◌+◌, ◌-◌, List, [], ◌∷◌, length, take, drop, Option, Some, None, Err, sym, ap, ◌∙◌, arith}
 use Rattle.std.specs.Prelude.{MatchOption}
 use Rattle.std.specs.List.{flat_map}
 use Rattle.std.proofs.lemmas.List.{append-nil}
-use Rattle.fam_model.specs.declared.script.Script.{Script}
 use Rattle.fam_script.specs.declared.script.form.Form.{Form}
 use Rattle.fam_script.specs.BadLine.{whole_lines}
 use Rattle.fam_script.specs.Machine.{Reading}

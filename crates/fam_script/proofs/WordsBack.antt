@@ -1,13 +1,12 @@
 -- Each word is read back from its text, which has printed bytes alone.
-use Rattle.std.proofs.Common.{◌≡◌, ℕ, zero, suc, ◌+◌, ◌-◌, ◌*◌, ◌/◌, ◌%◌, ◌^◌, ◌<◌, ◌≤◌, Bool, true, false, not, cond, List, [], ◌∷◌, length, map, Option, Some, None, refl, sym, ap, ◌∙◌, arith, lit≤, lit<, lt_of_lt_of_le}
+use Rattle.std.proofs.Common.{◌≡◌, ℕ, zero, suc, ◌+◌, ◌-◌, ◌*◌, ◌/◌, ◌%◌, ◌^◌, ◌<◌, ◌≤◌, Bool, true, false, not, cond, List, [], ◌∷◌, length, map, Option, Some, None, refl, ap, ◌∙◌, arith, lit≤, lit<, lt_of_lt_of_le}
 use Rattle.std.specs.Prelude.{◌==◌, ◌&&◌, nat_le, nat_lt, codes, drop, slice_index, ℤ, pos, negsuc}
 use Rattle.std.specs.List.{list_all, slice_split}
 use Rattle.std.specs.Str.{bytes_eq}
-use Rattle.std.specs.Str.Parse.{digits_value}
 use Rattle.std.specs.Fmt.{decimal, signed_decimal}
 use Rattle.std.proofs.lemmas.Bool.{leb-true, le-leb, ltb-true, lt-ltb}
 use Rattle.std.proofs.lemmas.Bool.Decides.{nat_tests}
-use Rattle.std.proofs.lemmas.Fmt.{decimal_by_steps_wide, decimal_is_IsNumeral_wide}
+use Rattle.std.proofs.lemmas.Fmt.{decimal_by_steps_wide}
 use Rattle.hex.specs.Hex.{encode_lower, encode_with, lower_digits, decode_of, IsBytes}
 use Rattle.hex.proofs.HexLemmas.{decode_of-encode_lower}
 use Rattle.fam_base.specs.Name.{is_between}
@@ -17,7 +16,7 @@ use Rattle.fam_model.specs.Atomic.{is_in_range}
 use Rattle.fam_model.specs.Words.{hex_text, list_text, mode_text}
 use Rattle.fam_model.specs.declared.call.Width.{Width}
 use Rattle.fam_model.specs.declared.call.Width.TheVariants.{I32, U32, I64, U64, I128, F32, F64}
-use Rattle.fam_script.specs.Reading.{number_of, small_of, byte_of, slot_of, wide_of, has_minus, below_zero, above_zero, signed_of, mode_within, mode_of, decoded, kept_where_printed, hex_of, onto, numbers_of, list_of}
+use Rattle.fam_script.specs.Reading.{number_of, small_of, byte_of, slot_of, wide_of, below_zero, above_zero, signed_of, mode_within, mode_of, decoded, kept_where_printed, hex_of, onto, numbers_of, list_of}
 use Rattle.fam_script.proofs.Numbers.{number_back, read_back, few_128}
 use Rattle.fam_script.proofs.Splits.{lacks, parts_back}
 use Rattle.fam_script.proofs.Tests.{and_left, and_right, and_both, all_both, all_one, all_same, when_true, bytes_same}

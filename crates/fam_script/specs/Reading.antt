@@ -18,7 +18,6 @@ use Rattle.fam_model.specs.declared.call.Call.TheVariants as call
 use Rattle.fam_model.specs.declared.line.Line.{Line}
 use Rattle.fam_model.specs.declared.line.Line.TheVariants as line
 use Rattle.fam_model.specs.Atomic.{is_fetching}
-use Rattle.fam_model.specs.CallText.{width_word, op_word}
 use Rattle.fam_model.specs.Grammar.{is_line}
 use Rattle.fam_model.specs.Lists.{◌>>=◌, when}
 use Rattle.fam_model.specs.ScriptText.{line_text}

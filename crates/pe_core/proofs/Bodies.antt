@@ -1,11 +1,11 @@
 -- The turns of a repeat by the list of its statements.
-use Rattle.std.proofs.Common.{◌≡◌, ℕ, zero, suc, Bool, true, false, List, [], ◌∷◌, ◌++◌, refl, sym, ap, ◌∙◌, append_assoc}
+use Rattle.std.proofs.Common.{◌≡◌, ℕ, zero, suc, List, [], ◌∷◌, ◌++◌, refl, sym, ap, ◌∙◌, append_assoc}
 use Rattle.std.specs.Prelude.{filter, ℤ}
 use Rattle.std.specs.List.{flat_map, repeat}
 use Rattle.std.proofs.lemmas.List.{append-nil}
 use Rattle.std.proofs.lemmas.List.Elements.{filter-append}
 use Rattle.std.proofs.lemmas.Grind.{flat_map-append}
-use Rattle.fam_model.specs.declared.script.Statement.{Statement, One, Repeat, Repeat', Spin, Row_of-Statement, end_of-Statement, more_of-Statement, items-the_row-Statement, items_hidden-the_row-Statement-0}
+use Rattle.fam_model.specs.declared.script.Statement.{Statement, Repeat, Repeat', Spin, Row_of-Statement, end_of-Statement, more_of-Statement, items-the_row-Statement, items_hidden-the_row-Statement-0}
 use Rattle.fam_model.specs.declared.call.Width.{Width}
 use Rattle.fam_model.specs.Text.{Turn, written_out, all_written_out}
 use Rattle.pe_core.specs.Left.{makes_calls, turns_of}

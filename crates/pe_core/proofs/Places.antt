@@ -1,16 +1,15 @@
 -- Where a program stands.
-use Rattle.std.proofs.Common.{◌≡◌, ℕ, zero, suc, ◌+◌, ◌-◌, ◌<◌, ◌≤◌, Bool, true, false, not, cond, ◌&&◌, List, [], ◌∷◌, ◌++◌, drop, Option, Some, None, refl, sym, ap, subst, ◌∙◌, arith}
-use Rattle.std.specs.Prelude.{◌==◌, ◌||◌, nat_le, ℤ, is_some, IsSome, slice_get}
-use Rattle.std.specs.List.{flat_map, list_all}
+use Rattle.std.proofs.Common.{◌≡◌, ℕ, zero, suc, ◌-◌, ◌<◌, Bool, true, false, not, cond, ◌&&◌, List, [], ◌∷◌, drop, Some, None, refl, sym, ap, ◌∙◌, arith}
+use Rattle.std.specs.Prelude.{◌||◌, nat_le, ℤ, is_some, IsSome, slice_get}
+use Rattle.std.specs.List.{list_all}
 use Rattle.std.proofs.lemmas.Bool.Decides.{nat_tests}
 use Rattle.fam_model.specs.declared.call.Call.{Call}
 use Rattle.fam_model.specs.declared.reply.Reply.{Reply}
-use Rattle.fam_model.specs.Text.{Turn, Once, Until, ends_spin, is_crash, next_of}
+use Rattle.fam_model.specs.Text.{Turn, Once, Until, ends_spin, next_of}
 use Rattle.pe_core.specs.declared.action.Action.{Action}
-use Rattle.pe_core.specs.declared.action.Action.TheVariants as action
 use Rattle.pe_core.specs.declared.place.Place.{Place}
-use Rattle.pe_core.specs.Actions.{turn_of, turn_at, in_order, are_there, make_calls, with_tries, turns_from, left_at, finished, is_ready}
-use Rattle.pe_core.specs.Left.{Left, makes_calls, next_after, tried, behind, after_reply}
+use Rattle.pe_core.specs.Actions.{turn_of, turn_at, in_order, are_there, make_calls, with_tries, turns_from, left_at, is_ready}
+use Rattle.pe_core.specs.Left.{Left, makes_calls, next_after, tried, after_reply}
 use Rattle.pe_core.proofs.Replies.{CallsLeft}
 use Rattle.pe_core.proofs.Tests.{and_left, and_right, and_both, all_both, all_one}
 

@@ -1,5 +1,5 @@
 -- What is left stands for the replies so far.
-use Rattle.std.proofs.Common.{◌≡◌, ℕ, zero, suc, ◌-◌, Bool, true, false, not, cond, List, [], ◌∷◌, ◌++◌, Option, Some, None, refl, sym, ap, ◌∙◌, append_assoc, append-nil, arith}
+use Rattle.std.proofs.Common.{◌≡◌, ℕ, zero, suc, ◌-◌, Bool, true, false, not, cond, List, [], ◌∷◌, Option, Some, None, refl, sym, ap, ◌∙◌, append_assoc, append-nil, arith}
 use Rattle.std.specs.Prelude.{filter, ◌==◌, nat_le, ℤ}
 use Rattle.std.specs.List.{flat_map, list_all}
 use Rattle.std.proofs.lemmas.Bool.Decides.{nat_tests}
@@ -9,7 +9,7 @@ use Rattle.fam_model.specs.declared.script.Program.{Program}
 use Rattle.fam_model.specs.Text.{Turn, Once, Until, written_out, ends_spin, after_spin, spun, is_crash, next_of, next_call}
 use Rattle.pe_core.specs.Left.{Left, makes_calls, turns_of, next_after, tried, behind, after_reply, StandsFor}
 use Rattle.pe_core.specs.Standing.{StandsForMore, IsNext}
-use Rattle.pe_core.proofs.Tests.{and_left, and_right}
+use Rattle.pe_core.proofs.Tests.{and_left}
 
 not_zero : (n : ℕ) → (suc n == 0) ≡ false
 not_zero n = grind (arith, nat_tests)

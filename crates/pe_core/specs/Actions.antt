@@ -1,5 +1,5 @@
 -- How a program is stored: what it does, each thing once, and the order in which it does them.
-use Rattle.std.specs.Prelude.{◌≡◌, ℕ, Bool, true, nat_lt, ℤ, pos, List, [], ◌∷◌, ◌++◌, ◌&&◌, length, drop, slice_get, Option, Some, None, if◌then◌else◌}
+use Rattle.std.specs.Prelude.{◌≡◌, ℕ, Bool, true, nat_lt, pos, List, [], ◌∷◌, ◌++◌, ◌&&◌, length, drop, slice_get, Option, Some, None, if◌then◌else◌}
 use Rattle.std.specs.List.{flat_map, list_all}
 use Rattle.fam_model.specs.declared.call.Call.TheVariants as call
 use Rattle.fam_model.specs.declared.call.DataOp.TheVariants as data_op

@@ -1,4 +1,3 @@
-use Rattle.std.proofs.Common.{◌≡◌, sym, subst}
 use Rattle.fam_script.proofs.Numbers.{number_is, number_only}
 use Rattle.fam_script.proofs.number.number_in.Goals as goal
 

@@ -1,4 +1,4 @@
-use Rattle.std.proofs.Common.{◌≡◌, ◌+◌, List, ◌∷◌, drop, Option, Some, ap, sym, ◌∙◌}
+use Rattle.std.proofs.Common.{◌+◌, ◌∷◌, drop, Some, ap, sym, ◌∙◌}
 use Rattle.fam_model.specs.declared.call.Call.{Call}
 use Rattle.pe_core.specs.declared.action.Action.{Action}
 use Rattle.pe_core.specs.Actions.{turn_of, in_order, turns_from}

@@ -1,4 +1,4 @@
-use Rattle.std.proofs.Common.{◌^◌, arith}
+use Rattle.std.proofs.Common.{arith}
 use Rattle.fam_script.proofs.Bounds.{all_below}
 use Rattle.fam_script.proofs.script.lawful.bytes_fit.Goals as goal
 

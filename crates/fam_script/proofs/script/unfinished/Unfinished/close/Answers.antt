@@ -1,4 +1,4 @@
-use Rattle.std.proofs.Common.{◌≡◌, ℕ, ◌+◌, ◌*◌, List, [], ◌∷◌, ◌++◌, min, sum_by, ap, sym, ◌∙◌}
+use Rattle.std.proofs.Common.{◌≡◌, ◌+◌, ◌*◌, List, [], ◌∷◌, ◌++◌, min, sum_by, ap, sym, ◌∙◌}
 use Rattle.fam_model.specs.declared.script.Statement.{Statement}
 use Rattle.fam_model.specs.declared.script.Statement.TheVariants as statement
 use Rattle.fam_model.specs.ScriptText.{call_count}
