@@ -4,3 +4,4 @@ pub mod Counts
 pub mod Kept
 pub mod Searches
 pub mod Nexts
+pub mod Reached

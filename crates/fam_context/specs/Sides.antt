@@ -1,6 +1,7 @@
 -- What is kept beside operations.
-use Rattle.std.specs.Prelude.{◌≡◌, ℕ, ◌<◌, ◌≤◌, ◌^◌, Bool, true, false, not, ◌&&◌, List, map, length, slice_get, replicate, Some, sum_by}
-use Rattle.std.specs.List.{AllZip}
+use Rattle.std.specs.Prelude.{◌≡◌, ◌≢◌, ℕ, ◌+◌, min, get_or, ◌==◌, ◌<◌, ◌≤◌, ◌^◌, Bool, true, false, not, ◌&&◌, List, map, length, slice_get, replicate, Some, sum_by}
+use Rattle.std.specs.List.{AllZip, position_or_len}
+use Rattle.fam_model.specs.Operations.{has_left}
 use Rattle.fam_model.specs.declared.piece.Mark.{Mark}
 use Rattle.fam_model.specs.declared.piece.Mark.TheVariants as mark
 use Rattle.fam_model.specs.declared.piece.MarkedPiece.{MarkedPiece}
@@ -71,3 +72,17 @@ pub record IsKept (context : Context) (sides : List Side) (pending : Pending) (p
   pub each : AllZip IsSideOf context.operations sides
   pub counted : pending ≡ total (λ side. side.counts) sides
   pub sum : pieces ≡ sum_by (λ frame. length frame.reads) (map frame_of context.operations)
+
+-- some piece of the operation is left, by its counts
+abbrev pub is_busy : Side → Bool
+is_busy side = not (side.counts.held + side.counts.out == 0)
+
+-- no side before this place is busy, but maybe the one at another place
+pub record AreIdleBut (sides : List Side) (first at : ℕ) : Type 0 where
+  pub within : min first at ≤ length sides
+  pub idle : (k : ℕ) (d : Side) → k < first → k ≢ at → is_busy (get_or sides k d) ≡ false
+
+-- what holds of the fields of a context, with the place of the first operation that has a piece left
+pub record IsIndexed (context : Context) (sides : List Side) (pending : Pending) (pieces first : ℕ) : Type 0 where
+  pub kept : IsKept context sides pending pieces
+  pub reached : first ≡ position_or_len has_left context.operations

@@ -7,7 +7,7 @@ use crate::changes::{
     add, collect, fresh, give_result, lose, planned, report_all, tell, tell_each,
 };
 use crate::next::next_in;
-use crate::side::{Side, flag_at, recount, set_flag};
+use crate::side::{Side, advance, flag_at, recount, set_flag};
 use crate::tracked::Pending;
 use crate::{results, words};
 use fam_base::{NoMemory, Sequence};
@@ -35,6 +35,7 @@ pub struct Context {
     sides: Vec<Side>,
     pending: Pending,
     pieces: u64,
+    first: usize,
 }
 
 impl Model for Context {
@@ -43,11 +44,11 @@ impl Model for Context {
     ghost Value = { Tracked };
 
     ghost use Rattle.fam_context.specs.Order.{tracked};
-    ghost use Rattle.fam_context.specs.Sides.{IsKept, flags_of};
+    ghost use Rattle.fam_context.specs.Sides.{IsIndexed, flags_of};
 
     ghost view = { λ c. tracked c.context (flags_of c.sides.items) };
 
-    ghost invariant = { λ c. IsKept c.context c.sides.items c.pending c.pieces };
+    ghost invariant = { λ c. IsIndexed c.context c.sides.items c.pending c.pieces c.first };
 }
 
 impl Context {
@@ -76,6 +77,7 @@ impl Context {
             sides: Vec::new(alloc),
             pending: NONE,
             pieces: 0,
+            first: 0,
         }
     }
 
@@ -93,6 +95,7 @@ impl Context {
             sides: Vec::new(alloc),
             pending: NONE,
             pieces: 0,
+            first: 0,
         }
     }
 
@@ -107,6 +110,7 @@ impl Context {
         self.sides = Vec::new(self.alloc);
         self.pending = NONE;
         self.pieces = 0;
+        self.first = 0;
     }
 
     /// The context is not open any more. Its operations stay.
@@ -142,7 +146,7 @@ impl Context {
     pub fn is_pending(&self) -> bool
         ensures { result ≡ operations.is_pending self.now.context }
     {
-        words::is_pending(&self.context)
+        words::is_pending(&self.context, self.first)
     }
 
     /// Whether there is an operation of the call.
@@ -159,7 +163,12 @@ impl Context {
         ensures { result ≡ effects.may_come_of self.now.context call piece }
     {
         match words::find(&self.context, call) {
-            Some(operation) => words::may_come(&self.context, operation, piece as usize),
+            Some(operation) => words::may_come(
+                &self.context,
+                self.first,
+                operation,
+                piece as usize,
+            ),
             None => false,
         }
     }
@@ -252,6 +261,7 @@ impl Context {
         add(&mut self.context, &mut self.sides, operation, side)?;
         self.pieces = pieces;
         self.pending.held += count as u64;
+        self.first = advance(self.sides.as_slice(), self.first, self.first);
         Ok(())
     }
 
@@ -302,6 +312,7 @@ impl Context {
         let operation = self.context.operations.at_mut(at);
         collect(self.alloc, operation, side, piece as usize, answer);
         self.pending = recount(self.pending, before, side.counts);
+        self.first = advance(self.sides.as_slice(), self.first, at);
     }
 
     /// A piece is lost, and with a copy's read its write.
@@ -316,6 +327,7 @@ impl Context {
         let before = side.counts;
         lose(self.context.operations.at_mut(at), side, piece as usize);
         self.pending = recount(self.pending, before, side.counts);
+        self.first = advance(self.sides.as_slice(), self.first, at);
     }
 
     /// The result of an operation was told.
@@ -370,6 +382,7 @@ impl Context {
         let before = side.counts;
         set_flag(self.context.operations.at(at), side, piece as usize, true);
         self.pending = recount(self.pending, before, side.counts);
+        self.first = advance(self.sides.as_slice(), self.first, at);
     }
 
     /// The results of all nonblocking operations that were not reported yet, in order of call. All results are
@@ -416,7 +429,7 @@ impl Context {
         for at in 0..self.sides.len() {
             let side = &self.sides[at];
             let operation = self.context.operations.at(at);
-            if let Some(piece) = next_in(&self.context, operation, side, stripe) {
+            if let Some(piece) = next_in(&self.context, self.first, operation, side, stripe) {
                 return Some((operation.call, piece));
             }
         }

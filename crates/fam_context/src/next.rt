@@ -1,8 +1,11 @@
 //! Which piece comes next on a stripe.
 
-ghost use Rattle.std.specs.Prelude.{◌≡◌, ℕ, ◌<◌, true, false, MatchOption, slice_get};
+ghost use Rattle.std.specs.Prelude.{◌≡◌, ℕ, ◌<◌, true, false, MatchOption, map, slice_get};
+ghost use Rattle.std.specs.List.{position_or_len};
 ghost use Rattle.fam_model.specs.Lists.{is_some_and};
 ghost use Rattle.fam_context.specs.Next.{lies_at, posts_on};
+ghost use Rattle.fam_model.specs.Operations.{has_left};
+ghost use Rattle.fam_context.specs.Order.{AreInOrder, frame_of};
 ghost use Rattle.fam_context.specs.Sides.{IsSideOf};
 
 use crate::side::Side;
@@ -30,15 +33,21 @@ fn is_out(side: &Side, j: usize) -> bool
 /// The first piece of the operation that may be posted to the stripe.
 pub(crate) fn next_in(
     context: &Context,
+    first: usize,
     operation: &Operation,
     side: &Side,
     stripe: u32,
 ) -> Option<u32>
-    requires { IsSideOf operation.now side.now }
+    requires side { IsSideOf operation.now side.now }
+    requires order { AreInOrder context.now.epoch (map frame_of context.now.operations) }
+    requires reached { first ≡ position_or_len has_left context.now.operations }
     ensures { MatchOption result ((j : ℕ) → posts_on context.now operation.now side.now.flags stripe j ≡ false) (λ j. (posts_on context.now operation.now side.now.flags stripe j ≡ true) × ((i : ℕ) → i < j → posts_on context.now operation.now side.now.flags stripe i ≡ false)) }
 {
     for j in 0..operation.pieces.len() {
-        if lies_at(operation, stripe, j) && !is_out(side, j) && may_come(context, operation, j) {
+        if lies_at(operation, stripe, j)
+            && !is_out(side, j)
+            && may_come(context, first, operation, j)
+        {
             return Some(j as u32);
         }
     }

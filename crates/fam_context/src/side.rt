@@ -1,10 +1,11 @@
 //! What is kept of an operation beside it.
 
 ghost use Rattle.std.specs.Prelude.{◌≡◌, ◌≤◌, true, length, slice_get, IfOk, IfSome};
+ghost use Rattle.std.specs.List.{position_or_len};
 ghost use Rattle.fam_model.specs.Lists.{change_place, is_some_and};
 ghost use Rattle.fam_context.specs.Counting.{share_of, recounted, Fits};
 ghost use Rattle.fam_context.specs.Effects.{with_mark};
-ghost use Rattle.fam_context.specs.Sides.{IsSideOf, IsLean, need_of, needed, has_room, flags_of};
+ghost use Rattle.fam_context.specs.Sides.{IsSideOf, IsLean, need_of, needed, has_room, flags_of, is_busy, AreIdleBut};
 
 use crate::tracked::Pending;
 use fam_base::{NoMemory, Sequence};
@@ -145,4 +146,24 @@ pub(crate) fn flag_at(sides: &[Side], k: usize, j: usize) -> bool
         },
         None => false,
     }
+}
+
+/// Whether some piece is held or out.
+fn is_busy(side: &Side) -> bool
+    ensures { result ≡ is_busy side.now }
+{
+    side.counts.held > 0 || side.counts.out > 0
+}
+
+/// The place of the first operation with a piece held or out, where none before `first` has one but maybe
+/// the one at `at`.
+pub(crate) fn advance(sides: &[Side], first: usize, at: usize) -> usize
+    requires { AreIdleBut sides.now first at }
+    ensures { result ≡ position_or_len is_busy sides.now }
+{
+    let mut place = first.min(at);
+    while place < sides.len() && !is_busy(&sides[place]) {
+        place += 1;
+    }
+    place
 }

@@ -1,7 +1,7 @@
 //! The words of the definitions on operations and contexts.
 
 ghost use Rattle.std.specs.Prelude.{◌≡◌, ◌&&◌, map, nat_lt, slice_get};
-ghost use Rattle.std.specs.List.{list_all};
+ghost use Rattle.std.specs.List.{list_all, position_or_len};
 ghost use Rattle.std.specs.Option.{option_copied};
 ghost use Rattle.fam_model.specs.Lists.{place_of, is_some_and};
 ghost use Rattle.fam_model.specs.Operations as operations;
@@ -74,14 +74,12 @@ pub(crate) fn left_count(operation: &Operation) -> u64
     count as u64
 }
 
-pub(crate) fn is_pending(context: &Context) -> bool
+/// Whether some piece is left: `first` is the place of the first operation with one.
+pub(crate) fn is_pending(context: &Context, first: usize) -> bool
+    requires { first ≡ position_or_len operations.has_left context.now.operations }
     ensures { result ≡ operations.is_pending context.now }
 {
-    context
-        .operations
-        .as_slice()
-        .iter()
-        .any(|operation| has_left(operation))
+    first < context.operations.len()
 }
 
 fn is_served(mark: &Mark) -> bool
@@ -103,15 +101,16 @@ pub(crate) fn is_copy(kind: PlanKind) -> bool
     }
 }
 
-fn is_past_fences(context: &Context, operation: &Operation) -> bool
+/// Whether no fence holds the operation back: `first` is the place of the first one with a piece left.
+fn is_past_fences(context: &Context, first: usize, operation: &Operation) -> bool
+    requires order { AreInOrder context.now.epoch (map frame_of context.now.operations) }
+    requires reached { first ≡ position_or_len operations.has_left context.now.operations }
     ensures { result ≡ operations.is_past_fences context.now operation.now }
 {
-    let epoch = operation.epoch;
-    context
-        .operations
-        .as_slice()
-        .iter()
-        .all(|earlier| epoch <= earlier.epoch || !has_left(earlier))
+    match context.operations.get(first) {
+        Some(earliest) => operation.epoch <= earliest.epoch,
+        None => true,
+    }
 }
 
 fn has_its_bytes(operation: &Operation, j: usize) -> bool
@@ -137,10 +136,14 @@ pub(crate) fn has_left_at(operation: &Operation, j: usize) -> bool
 }
 
 #[tactic(auto, unfolding(fam_model::specs::Operations::may_come))]
-pub(crate) fn may_come(context: &Context, operation: &Operation, j: usize) -> bool
+pub(crate) fn may_come(context: &Context, first: usize, operation: &Operation, j: usize) -> bool
+    requires order { AreInOrder context.now.epoch (map frame_of context.now.operations) }
+    requires reached { first ≡ position_or_len operations.has_left context.now.operations }
     ensures { result ≡ operations.may_come context.now operation.now j }
 {
-    has_left_at(operation, j) && is_past_fences(context, operation) && has_its_bytes(operation, j)
+    has_left_at(operation, j)
+        && is_past_fences(context, first, operation)
+        && has_its_bytes(operation, j)
 }
 
 pub(crate) fn is_copy_read(plan: PlanKind, kind: PieceKind) -> bool

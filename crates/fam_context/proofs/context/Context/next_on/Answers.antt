@@ -5,11 +5,11 @@ use Rattle.fam_context.proofs.Nexts.{none_first, none_more, none_on, next_is}
 use Rattle.fam_context.proofs.Searches.{calls_rise}
 use Rattle.fam_context.proofs.context.Context.next_on.Goals as goal
 
-pub next_in-requires : goal.next_in-requires
-next_in-requires c =
+pub next_in-requires-clause-side : goal.next_in-requires-clause-side
+next_in-requires-clause-side c =
     all_zip_at IsSideOf c.self.inside.context.operations c.self.inside.sides.items c.loop-at.at c.at-operation.result.now c.index-side.result.now
-    c.self.invariant.each c.at-operation.ensures
-    (side_there c.self.inside.context c.self.inside.sides.items c.loop-at.at c.at-operation.result.now c.index-side.result.now c.self.invariant.each
+    c.self.invariant.kept.each c.at-operation.ensures
+    (side_there c.self.inside.context c.self.inside.sides.items c.loop-at.at c.at-operation.result.now c.index-side.result.now c.self.invariant.kept.each
     c.at-operation.ensures c.index-side.ensures)
 
 pub loop-at-init : goal.loop-at-init
@@ -19,18 +19,18 @@ pub loop-at-preserved : goal.loop-at-preserved
 loop-at-preserved c =
     none_more c.self.inside.context c.self.inside.sides.items c.args.stripe c.loop-at.at c.at-operation.result.now c.index-side.result.now
     c.loop-at.invariant c.at-operation.ensures
-    (side_there c.self.inside.context c.self.inside.sides.items c.loop-at.at c.at-operation.result.now c.index-side.result.now c.self.invariant.each
+    (side_there c.self.inside.context c.self.inside.sides.items c.loop-at.at c.at-operation.result.now c.index-side.result.now c.self.invariant.kept.each
     c.at-operation.ensures c.index-side.ensures) c.in_default.ensures
 
 pub returns-in-Some : goal.returns-in-Some
 returns-in-Some c = rw (← c.self.view_is)
     (next_is c.self.inside.context c.self.inside.sides.items c.args.stripe c.loop-at.at c.in-Some.piece c.at-operation.result.now
-    c.index-side.result.now c.self.invariant.each (calls_rise c.self.inside.context.operations c.self.invariant.ordered.order.pairs)
+    c.index-side.result.now c.self.invariant.kept.each (calls_rise c.self.inside.context.operations c.self.invariant.kept.ordered.order.pairs)
     c.loop-at.invariant c.at-operation.ensures
-    (side_there c.self.inside.context c.self.inside.sides.items c.loop-at.at c.at-operation.result.now c.index-side.result.now c.self.invariant.each
+    (side_there c.self.inside.context c.self.inside.sides.items c.loop-at.at c.at-operation.result.now c.index-side.result.now c.self.invariant.kept.each
     c.at-operation.ensures c.index-side.ensures) c.in-Some.ensures.0 c.in-Some.ensures.1)
 
 pub returns : goal.returns
 returns c = rw (← c.self.view_is)
-    (none_on c.self.inside.context c.self.inside.sides.items c.args.stripe c.loop-at.at c.self.invariant.each c.loop-at.invariant
+    (none_on c.self.inside.context c.self.inside.sides.items c.args.stripe c.loop-at.at c.self.invariant.kept.each c.loop-at.invariant
     (let past : length c.self.inside.sides.items ≤ c.loop-at.at = search rules in past))
