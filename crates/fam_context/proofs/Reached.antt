@@ -1,13 +1,13 @@
 -- The first operation that has a piece left.
-use Rattle.std.proofs.Common.{◌≡◌, ℕ, zero, suc, ◌+◌, ◌<◌, ◌≤◌, Bool, true, false, not, cond, ◌&&◌, ◌||◌, ◌==◌, nat_le, nat_lt, List, [], ◌∷◌, ◌++◌, map, length, get_or, refl, ap, sym, ◌∙◌, arith}
-use Rattle.std.specs.Prelude.{slice_get, slice_set, Some, None, is_some, sum_by}
+use Rattle.std.proofs.Common.{◌≡◌, ℕ, zero, suc, ◌+◌, ◌<◌, ◌≤◌, ◌^◌, Bool, true, false, not, cond, ◌&&◌, ◌||◌, ◌==◌, nat_le, nat_lt, List, [], ◌∷◌, ◌++◌, map, length, get_or, refl, ap, sym, ◌∙◌, arith}
+use Rattle.std.specs.Prelude.{slice_get, slice_set, Some, None, is_some, sum_by, count_by}
 use Rattle.std.specs.List.{zip, AllZip, AllPairs, list_all, list_any, position_or_len}
 use Rattle.std.specs.Option.{option_map_or}
 use Rattle.std.proofs.lemmas.Bool.Decides.{nat_tests}
 use Rattle.std.proofs.lemmas.List.{length-set, length-map, length-append, get_or-map}
 use Rattle.std.proofs.lemmas.Grind.{common_steps}
-use Rattle.std.proofs.lemmas.Option.{slice_get_within, slice_get-get_or}
-use Rattle.std.proofs.lemmas.List.Sums.{sum_by-cons, position_or_len_is, fails_before_first}
+use Rattle.std.proofs.lemmas.Option.{slice_get_within, slice_get-get_or, get_or_from_slice_get}
+use Rattle.std.proofs.lemmas.List.Sums.{sum_by-cons, position_or_len_is, fails_before_first, get_or-le-sum_by}
 use Rattle.std.proofs.Common.{get_or-set_other}
 use Rattle.fam_model.specs.declared.piece.Mark.{Mark}
 use Rattle.fam_model.specs.declared.piece.MarkedPiece.{MarkedPiece}
@@ -16,9 +16,11 @@ use Rattle.fam_model.specs.Operations.{is_left, is_left_mark, has_left, as_repor
 use Rattle.fam_model.specs.declared.state.Context.{Context}
 use Rattle.fam_context.specs.declared.tracked.Pending.{Pending}
 use Rattle.fam_context.specs.declared.side.Side.{Side}
-use Rattle.fam_context.specs.Counting.{share_of, one_if, marks_of}
+use Rattle.fam_context.specs.Counting.{share_of, one_if, marks_of, counts_of}
+use Rattle.fam_context.specs.Effects.{left_count}
 use Rattle.fam_context.specs.Order.{frame_of, IsBefore, AreInOrder}
 use Rattle.fam_context.specs.Sides.{IsSideOf, is_busy, AreIdleBut, IsKept, IsIndexed}
+use Rattle.fam_context.proofs.Counts.{count_within, length_stages}
 use Rattle.fam_context.proofs.Places.{found_any}
 
 -- counts and what is left
@@ -135,7 +137,7 @@ advanced [] place within idle busy = omega arith
 advanced (s ∷ sides) place within idle busy =
     sym (position_or_len_is is_busy (s ∷ sides) place s within (λ k h. idle k s h) (λ h. busy h s))
 
-before_first : (context : Context) (sides : List Side) (pending : Pending) (pieces first : ℕ) → IsIndexed context sides pending pieces first →
+pub before_first : (context : Context) (sides : List Side) (pending : Pending) (pieces first : ℕ) → IsIndexed context sides pending pieces first →
     (first ≡ position_or_len is_busy sides) × ((k : ℕ) (d : Side) → k < first → is_busy (get_or sides k d) ≡ false)
 before_first context sides pending pieces first indexed =
     let same : first ≡ position_or_len is_busy sides = indexed.reached ∙ sym (reached_left context.operations sides indexed.kept.each) in
@@ -223,3 +225,50 @@ past_none context first operation order e there =
     let found : slice_get context.operations (position_or_len has_left context.operations) ≡ None = ap (slice_get context.operations) (sym e) ∙ there in
     ap (λ o. option_map_or (λ x. nat_le operation.epoch x.epoch) o true) (sym found)
     ∙ past_first operation.epoch context.operations (epochs_rise context.operations order.pairs)
+
+-- the pieces left are those held and those out
+
+left_cons : (b f : Bool) (rest held out : ℕ) → rest ≡ held + out →
+    one_if b + rest ≡ (one_if (b && not f) + held) + (one_if (b && f) + out)
+left_cons true true rest held out e = omega (arith, e)
+left_cons true false rest held out e = omega (arith, e)
+left_cons false f rest held out e = omega (arith, e)
+
+left_lists : (reported : Bool) (pieces : List MarkedPiece) (flags : List Bool) → length flags ≡ length pieces →
+    count_by is_left pieces
+    ≡ sum_by (λ e. (share_of reported e).held) (zip (marks_of pieces) flags) + sum_by (λ e. (share_of reported e).out) (zip (marks_of pieces) flags)
+left_lists reported [] [] e = refl
+left_lists reported [] (f ∷ flags) e = absurd (let no : ⊥ = omega (arith, e) in no)
+left_lists reported (p ∷ pieces) [] e = absurd (let no : ⊥ = omega (arith, e) in no)
+left_lists reported (p ∷ pieces) (f ∷ flags) e =
+    let rest : List (Mark × Bool) = zip (marks_of pieces) flags in
+    let others = left_lists reported pieces flags (let same : length flags ≡ length pieces = omega (arith, e) in same) in
+    sum_by-cons (λ q. one_if (is_left q)) p pieces
+    ∙ (left_cons (is_left_mark p.mark) f (count_by is_left pieces) (sum_by (λ (e : Mark × Bool). (share_of reported e).held) rest)
+    (sum_by (λ (e : Mark × Bool). (share_of reported e).out) rest) others
+    ∙ (λ i. sym (sum_by-cons (λ (e : Mark × Bool). (share_of reported e).held) (p.mark, f) rest) i
+    + sym (sum_by-cons (λ (e : Mark × Bool). (share_of reported e).out) (p.mark, f) rest) i))
+
+pub counts_left : (operation : Operation) (side : Side) → IsSideOf operation side → side.counts.held + side.counts.out ≡ left_count operation
+counts_left operation side kept =
+    (λ i. (kept.counted i).held + (kept.counted i).out) ∙ sym (left_lists operation.reported operation.pieces side.flags kept.sized)
+
+-- there are fewer than 2 ^ 33
+pub few_counts : (operation : Operation) (side : Side) → IsSideOf operation side → side.counts.held + side.counts.out < 2 ^ 33
+few_counts operation side kept =
+    let within = count_within operation side.flags in
+    let most = length_stages operation side.flags in
+    let held : side.counts.held ≡ (counts_of (operation, side.flags)).held = ap (λ c. c.held) kept.counted in
+    let out : side.counts.out ≡ (counts_of (operation, side.flags)).out = ap (λ c. c.out) kept.counted in
+    omega (arith, within.0, within.1.0, most, kept.few, held, out)
+
+-- a piece that may be posted is held
+pub one_held : (stages : List (Mark × Bool)) (reported : Bool) (j : ℕ) (m : Mark) (f : Bool) → slice_get stages j ≡ Some (m, f) → is_left_mark m ≡ true → f ≡ false →
+    1 ≤ sum_by (λ e. (share_of reported e).held) stages
+one_held stages reported j m f there left out =
+    let inside : j < length stages = slice_get_within stages j (m, f) there in
+    let same : get_or stages j (m, f) ≡ (m, f) = get_or_from_slice_get stages j (m, f) (m, f) there in
+    let one : (share_of reported (m, f)).held ≡ 1 = rw (left, out) refl in
+    let least = get_or-le-sum_by (λ (e : Mark × Bool). (share_of reported e).held) stages j (m, f) inside in
+    let value : (share_of reported (get_or stages j (m, f))).held ≡ 1 = ap (λ e. (share_of reported e).held) same ∙ one in
+    omega (arith, least, value)

@@ -209,10 +209,14 @@ impl Context {
     pub fn left(&self, call: u64) -> Option<u64>
         ensures { result ≡ effects.left_of self.now.context call }
     {
-        match words::find(&self.context, call) {
-            Some(operation) if !operation.reported => Some(words::left_count(operation)),
-            _ => None,
+        let Some(at) = words::place_of(&self.context, call) else {
+            return None;
+        };
+        if self.context.operations.at(at).reported {
+            return None;
         }
+        let side = &self.sides[at];
+        Some(side.counts.held + side.counts.out)
     }
 
     /// Whether there is a copy of the call whose result was not told.
@@ -426,9 +430,12 @@ impl Context {
     pub fn next_on(&self, stripe: u32) -> Option<(u64, u32)>
         ensures { MatchOption result (NoneOn self.now stripe) (IsNextOn self.now stripe) }
     {
-        for at in 0..self.sides.len() {
-            let side = &self.sides[at];
+        for at in self.first..self.sides.len() {
             let operation = self.context.operations.at(at);
+            if !words::is_past_fences(&self.context, self.first, operation) {
+                return None;
+            }
+            let side = &self.sides[at];
             if let Some(piece) = next_in(&self.context, self.first, operation, side, stripe) {
                 return Some((operation.call, piece));
             }

@@ -31,7 +31,7 @@ fn is_out(side: &Side, j: usize) -> bool
 }
 
 /// The first piece of the operation that may be posted to the stripe.
-pub(crate) fn next_in(
+fn scan(
     context: &Context,
     first: usize,
     operation: &Operation,
@@ -52,4 +52,25 @@ pub(crate) fn next_in(
         }
     }
     None
+}
+
+/// The first piece of the operation that may be posted to the stripe. An operation with no piece held is
+/// passed over.
+pub(crate) fn next_in(
+    context: &Context,
+    first: usize,
+    operation: &Operation,
+    side: &Side,
+    stripe: u32,
+) -> Option<u32>
+    requires side { IsSideOf operation.now side.now }
+    requires order { AreInOrder context.now.epoch (map frame_of context.now.operations) }
+    requires reached { first ≡ position_or_len has_left context.now.operations }
+    ensures { MatchOption result ((j : ℕ) → posts_on context.now operation.now side.now.flags stripe j ≡ false) (λ j. (posts_on context.now operation.now side.now.flags stripe j ≡ true) × ((i : ℕ) → i < j → posts_on context.now operation.now side.now.flags stripe i ≡ false)) }
+{
+    if side.counts.held == 0 {
+        None
+    } else {
+        scan(context, first, operation, side, stripe)
+    }
 }

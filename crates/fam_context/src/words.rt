@@ -7,7 +7,7 @@ ghost use Rattle.fam_model.specs.Lists.{place_of, is_some_and};
 ghost use Rattle.fam_model.specs.Operations as operations;
 ghost use Rattle.fam_model.specs.PieceStep.{is_read};
 ghost use Rattle.fam_model.specs.Programs.{call_number, has_operation, operation_of};
-ghost use Rattle.fam_context.specs.Effects.{left_count, gives_bytes, is_answer_of, may_answer};
+ghost use Rattle.fam_context.specs.Effects.{gives_bytes, is_answer_of, may_answer};
 ghost use Rattle.fam_context.specs.Order.{AreInOrder, frame_of, are_in_turn, is_planned_in_turn};
 
 use fam_layout::Plan;
@@ -62,18 +62,6 @@ pub(crate) fn has_left(operation: &Operation) -> bool
         .any(|piece| is_left(piece))
 }
 
-pub(crate) fn left_count(operation: &Operation) -> u64
-    ensures { result ≡ left_count operation.now }
-{
-    let count = operation
-        .pieces
-        .as_slice()
-        .iter()
-        .filter(|piece| is_left(piece))
-        .count();
-    count as u64
-}
-
 /// Whether some piece is left: `first` is the place of the first operation with one.
 pub(crate) fn is_pending(context: &Context, first: usize) -> bool
     requires { first ≡ position_or_len operations.has_left context.now.operations }
@@ -102,7 +90,7 @@ pub(crate) fn is_copy(kind: PlanKind) -> bool
 }
 
 /// Whether no fence holds the operation back: `first` is the place of the first one with a piece left.
-fn is_past_fences(context: &Context, first: usize, operation: &Operation) -> bool
+pub(crate) fn is_past_fences(context: &Context, first: usize, operation: &Operation) -> bool
     requires order { AreInOrder context.now.epoch (map frame_of context.now.operations) }
     requires reached { first ≡ position_or_len operations.has_left context.now.operations }
     ensures { result ≡ operations.is_past_fences context.now operation.now }

@@ -1,7 +1,7 @@
-use Rattle.std.proofs.Common.{rules, length, ◌≤◌}
+use Rattle.std.proofs.Common.{rules, arith, sym, length, ◌≤◌}
 use Rattle.fam_context.specs.Sides.{IsSideOf}
 use Rattle.fam_context.proofs.Kept.{all_zip_at, side_there}
-use Rattle.fam_context.proofs.Nexts.{none_first, none_more, none_on, next_is}
+use Rattle.fam_context.proofs.Nexts.{none_left, none_past_fence, none_more, none_on, next_is}
 use Rattle.fam_context.proofs.Searches.{calls_rise}
 use Rattle.fam_context.proofs.context.Context.next_on.Goals as goal
 
@@ -13,7 +13,15 @@ next_in-requires-clause-side c =
     c.at-operation.ensures c.index-side.ensures)
 
 pub loop-at-init : goal.loop-at-init
-loop-at-init c = none_first c.self.inside.context c.self.inside.sides.items c.args.stripe
+loop-at-init c =
+    none_left c.self.inside.context c.self.inside.sides.items c.self.inside.pending c.self.inside.pieces c.self.inside.first c.args.stripe
+    c.self.invariant
+
+pub returns-then-not-is_past_fences : goal.returns-then-not-is_past_fences
+returns-then-not-is_past_fences c = rw (← c.self.view_is)
+    (none_on c.self.inside.context c.self.inside.sides.items c.args.stripe (length c.self.inside.sides.items) c.self.invariant.kept.each
+    (none_past_fence c.self.inside.context c.self.inside.sides.items c.args.stripe c.loop-at.at c.at-operation.result.now
+    c.self.invariant.kept.ordered.order.pairs c.loop-at.invariant c.at-operation.ensures (sym c.if-not-is_past_fences.ensures)) (omega arith))
 
 pub loop-at-preserved : goal.loop-at-preserved
 loop-at-preserved c =
