@@ -1,0 +1,4 @@
+//! The memory machine as a plain program: its step is the definition's.
+#![tactic(auto)]
+
+mod memory;
