@@ -2,3 +2,4 @@ pub mod Lists
 pub mod Places
 pub mod Changes
 pub mod Planned
+pub mod Programs
