@@ -3,3 +3,5 @@ pub mod Places
 pub mod Changes
 pub mod Planned
 pub mod Programs
+pub mod Issued
+pub mod Told

@@ -132,7 +132,7 @@ open_context_at p c context e =
     let there = bind_some (slice_get p.contexts c) (λ context. when context.is_open context) context e in
     there.1 ∙ ap (λ x. Some x) (when_some there.0.is_open there.0 context there.2).1
 
-open_context_sound : (rows : Rows) (p : ProgramState) (c : ℕ) (context : Context) → HoldsSound rows p → open_context p c ≡ Some context → IsSoundContext rows context
+pub open_context_sound : (rows : Rows) (p : ProgramState) (c : ℕ) (context : Context) → HoldsSound rows p → open_context p c ≡ Some context → IsSoundContext rows context
 open_context_sound rows p c context holds e = All-at (IsSoundContext rows) p.contexts c context holds.operations (open_context_at p c context e)
 
 -- a program with another context in place of one
