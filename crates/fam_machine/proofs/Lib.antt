@@ -5,3 +5,4 @@ pub mod Planned
 pub mod Programs
 pub mod Issued
 pub mod Told
+pub mod Rounds

@@ -221,3 +221,65 @@ slot_with rows d known f e = subst (IsKnown rows) (same_Some d f e) known
 with_item : (rows : Rows) (p : ProgramState) (slot : ℕ) (d : Descriptor) → HoldsSound rows p → IsKnown rows d → HoldsSound rows (fill_item p slot (reply.Item d))
 with_item rows p slot d holds known =
     record { slots = All-set (IsSoundSlot rows) p.item_slots slot (Some d) (slot_with rows d known) holds.slots; operations = holds.operations }
+
+region_next : (rows : Rows) (p : ProgramState) (slot : ℕ) (given : Reply) → HoldsSound rows p → IsNext rows 1 p (fill_region (counted p) slot given)
+region_next rows p slot (reply.Region region) holds =
+    record { who = refl; is_local = refl; standing = refl; arrived = refl; next = refl; holds = record { slots = holds.slots; operations = holds.operations } }
+region_next rows p slot given holds = counted_next rows p holds
+
+item_next : (rows : Rows) (p : ProgramState) (slot : ℕ) (given : Reply) → HoldsSound rows p → ((d : Descriptor) → given ≡ reply.Item d → IsKnown rows d) → IsNext rows 1 p (fill_item (counted p) slot given)
+item_next rows p slot (reply.Item d) holds known =
+    record {
+      who = refl;
+      is_local = refl;
+      standing = refl;
+      arrived = refl;
+      next = refl;
+      holds = with_item rows (counted p) slot d (counted_next rows p holds).holds (known d refl);
+    }
+item_next rows p slot given holds known = counted_next rows p holds
+
+-- what is told of an item that is allocated or looked up
+told_known : (rows : Rows) (who : Who) (asked : Request) (given : Reply) → IsLawful rows → may_reply rows who asked given ≡ true → (d : Descriptor) → given ≡ reply.Item d → ((name : List ℕ) (size mode : ℕ) (region : RegionId) → asked ≡ request.Allocate name size mode region → IsKnown (rows_after rows (told_change rows who asked given)) d) × ((name region : List ℕ) → asked ≡ request.Lookup name region → IsKnown (rows_after rows (told_change rows who asked given)) d)
+told_known rows who asked given lawful may d e =
+    ((λ name size mode region f.
+      let now : may_reply rows who (request.Allocate name size mode region) (reply.Item d) ≡ true =
+      subst (λ g. may_reply rows who (request.Allocate name size mode region) g ≡ true) e (subst (λ a. may_reply rows who a given ≡ true) f may)
+      in
+      subst (λ a. IsKnown (rows_after rows (told_change rows who a given)) d) (sym f)
+      (subst (λ g. IsKnown (rows_after rows (told_change rows who (request.Allocate name size mode region) g)) d) (sym e)
+      (allocate_known rows who name size mode region d lawful (refusal rows who (request.Allocate name size mode region)) now))),
+     (λ name region f.
+      let now : may_reply rows who (request.Lookup name region) (reply.Item d) ≡ true =
+      subst (λ g. may_reply rows who (request.Lookup name region) g ≡ true) e (subst (λ a. may_reply rows who a given ≡ true) f may)
+      in
+      subst (λ a. IsKnown (rows_after rows (told_change rows who a given)) d) (sym f)
+      (lookup_known rows name region d lawful (refusal rows who (request.Lookup name region)) now)))
+
+-- the program after a call on the directory, by the request that it makes
+asked_next : (rows now : Rows) (p : ProgramState) (asked : MetaCall) (made : Request) (given : Reply) → IsLawful rows → HoldsSound now p → request_of p asked ≡ Some made → may_reply rows p.who made given ≡ true → rows_after rows (told_change rows p.who made given) ≡ now → IsNext now 1 p (filled (counted p) asked given)
+asked_next rows now p (meta.CreateRegion slot name size mode) made given lawful holds e may same = region_next now p slot given holds
+asked_next rows now p (meta.LookupRegion slot name) made given lawful holds e may same = region_next now p slot given holds
+asked_next rows now p (meta.Allocate slot name size mode from) made given lawful holds e may same =
+    let region = bind_some (region_slot p from) _ made e in
+    item_next now p slot given holds (λ d f. subst (λ rows. IsKnown rows d) same
+    ((told_known rows p.who made given lawful may d f).0 name size mode region.0 (sym (same_Some _ made region.2))))
+asked_next rows now p (meta.Lookup slot name region) made given lawful holds e may same =
+    item_next now p slot given holds (λ d f. subst (λ rows. IsKnown rows d) same
+    ((told_known rows p.who made given lawful may d f).1 name region (sym (same_Some _ made e))))
+asked_next rows now p asked made given lawful holds e may same = counted_next now p holds
+
+-- the change that a step of a call on the directory serves
+pub step_change : (rows : Rows) (p q : ProgramState) (asked : MetaCall) (given : Reply) → meta_step rows p asked given ≡ Some q → (made : Request) × (request_of p asked ≡ Some made) × (served_change rows p asked given ≡ told_change rows p.who made given)
+step_change rows p q asked given e =
+    let made = bind_some (request_of p asked) _ q e in
+    (made.0, made.1, ap (λ o. o >>= λ request. told_change rows p.who request given) made.1)
+
+pub meta_next : (rows : Rows) (p q : ProgramState) (asked : MetaCall) (given : Reply) → IsLawful rows → KeepsItems rows (rows_after rows (served_change rows p asked given)) → HoldsSound rows p → meta_step rows p asked given ≡ Some q → IsNext (rows_after rows (served_change rows p asked given)) 1 p q
+meta_next rows p q asked given lawful keeps holds e =
+    let made = bind_some (request_of p asked) _ q e in
+    let now = rows_after rows (served_change rows p asked given) in
+    let served : served_change rows p asked given ≡ told_change rows p.who made.0 given = ap (λ o. o >>= λ request. told_change rows p.who request given) made.1 in
+    let may = when_some (may_reply rows p.who made.0 given) (filled (counted p) asked given) q made.2 in
+    subst (IsNext now 1 p) may.1
+    (asked_next rows now p asked made.0 given lawful (holds_kept rows now p keeps holds) made.1 may.0 (ap (rows_after rows) (sym served)))
