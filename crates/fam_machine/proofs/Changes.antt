@@ -27,7 +27,7 @@ use Rattle.fam_machine.proofs.Lists.{find_number-find, found-filter, found_passe
 -- lists
 
 -- looking up in what a map leaves
-found-map : {A B : Type 0} (h : A → B) (p : B → Bool) (xs : List A) → find p (map h xs) ≡ option_map h (find (λ x. p (h x)) xs)
+pub found-map : {A B : Type 0} (h : A → B) (p : B → Bool) (xs : List A) → find p (map h xs) ≡ option_map h (find (λ x. p (h x)) xs)
 found-map h p [] = refl
 found-map h p (x ∷ xs) = here (p (h x)) (found-map h p xs)
   where
@@ -68,7 +68,7 @@ some-or : {A : Type 0} (o p : Option A) → is_some o ≡ true → is_some (opti
 some-or None p e = absurd (false≢true e)
 some-or (Some x) p e = refl
 
-mapped_some : {A B : Type 0} (h : A → B) (o : Option A) (y : B) → option_map h o ≡ Some y → (x : A) × (o ≡ Some x) × (h x ≡ y)
+pub mapped_some : {A B : Type 0} (h : A → B) (o : Option A) (y : B) → option_map h o ≡ Some y → (x : A) × (o ≡ Some x) × (h x ≡ y)
 mapped_some h None y e = absurd (none-some y e)
 mapped_some h (Some x) y e = (x, refl, same_Some (h x) y e)
 
@@ -123,7 +123,7 @@ kept_items old new keep rise e le =
     }
 
 -- the extent of an item, by the extents of all
-extent_of : (n : ℕ) (items : List ItemRow) → option_map item_extent (find_number item_number n items) ≡ find (λ e. e.0 == n) (map item_extent items)
+pub extent_of : (n : ℕ) (items : List ItemRow) → option_map item_extent (find_number item_number n items) ≡ find (λ e. e.0 == n) (map item_extent items)
 extent_of n items = ap (λ o. option_map item_extent o) (find_number-find item_number n items) ∙ sym (found-map item_extent (λ e. e.0 == n) items)
 
 -- rows whose items have the same numbers and sizes

@@ -6,3 +6,5 @@ pub mod Programs
 pub mod Issued
 pub mod Told
 pub mod Rounds
+pub mod Bytes
+pub mod States

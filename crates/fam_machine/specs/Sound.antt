@@ -1,7 +1,11 @@
 -- What holds of each state of the machine.
-use Rattle.std.specs.Prelude.{◌≡◌, ℕ, ◌+◌, ◌<◌, ◌≤◌, suc, Bool, true, ◌==◌, ◌&&◌, List, map, length, Option, Some, slice_get, IsTrue, All}
+use Rattle.std.specs.Prelude.{◌≡◌, ℕ, ◌+◌, ◌<◌, ◌≤◌, suc, Bool, true, ◌==◌, ◌&&◌, List, map, length, Option, Some, slice_get, IsTrue, All, ⊤}
 use Rattle.fam_base.specs.declared.naming.Descriptor.{Descriptor}
 use Rattle.fam_base.specs.declared.naming.ItemId.{ItemId}
+use Rattle.fam_model.specs.declared.call.MetaCall.{MetaCall}
+use Rattle.fam_model.specs.declared.call.MetaCall.TheVariants as meta
+use Rattle.fam_model.specs.declared.event.What.{What}
+use Rattle.fam_model.specs.declared.event.What.TheVariants as what
 use Rattle.fam_model.specs.declared.piece.MarkedPiece.{MarkedPiece}
 use Rattle.fam_model.specs.declared.piece.Operation.{Operation}
 use Rattle.fam_model.specs.declared.piece.PieceKind.{PieceKind}
@@ -106,3 +110,18 @@ pub record IsSound (state : State) : Type 0 where
   pub lawful : IsLawful state.rows
   pub filled : IsMemoryOf state.rows.items state.memory
   pub sound : All (IsSoundProgram state.rows state.round) state.programs
+
+-- events
+
+-- the mode that a call gives, and 0 where it gives none
+abbrev pub call_mode : MetaCall → ℕ
+call_mode (meta.CreateRegion slot name size mode) = mode
+call_mode (meta.SetRegionMode slot mode) = mode
+call_mode (meta.Allocate slot name size mode region) = mode
+call_mode (meta.SetItemMode slot mode) = mode
+call_mode _ = 0
+
+-- the modes that an event gives are modes
+abbrev pub HasModes : What → Type 0
+HasModes (what.Meta asked given) = call_mode asked ≤ 511
+HasModes _ = ⊤
