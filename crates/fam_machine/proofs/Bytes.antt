@@ -1,5 +1,5 @@
 -- What a piece leaves of memory.
-use Rattle.std.proofs.Common.{◌≡◌, ℕ, ◌+◌, ◌<◌, ◌≤◌, List, [], ◌∷◌, ◌++◌, map, length, take, drop, get_or, set, Option, Some, None, Bool, true, false, sym, ap, subst, ◌∙◌, refl, arith}
+use Rattle.std.proofs.Common.{◌≡◌, ℕ, ◌+◌, ◌<◌, ◌≤◌, List, [], ◌∷◌, ◌++◌, map, length, take, drop, get_or, set, Option, Some, None, Bool, true, false, sym, ap, subst, ◌∙◌, refl, arith, lit≤}
 use Rattle.std.specs.Prelude.{◌&&◌, ◌==◌, All, slice_get, slice_set, IsTrue, find, ℤ, if◌then◌else◌}
 use Rattle.std.specs.Option.{option_map, option_map_or}
 use Rattle.std.specs.List.{replace_range}
@@ -27,7 +27,7 @@ use Rattle.fam_model.specs.Lists.{◌>>=◌, change_place, change_number, place_
 use Rattle.fam_model.specs.PieceStep.{entry_number, item_bytes, overwritten, with_bytes, bytes_found, memory_by_kind, memory_by_piece, is_refused}
 use Rattle.fam_model.specs.Programs.{Placed, placed}
 use Rattle.fam_model.specs.Rows.{IsLawful, item_of, item_number}
-use Rattle.fam_machine.specs.Sound.{entry_extent, item_extent, IsMemoryOf, IsSoundPiece, IsSoundOperation, HoldsSound, is_sound_kind}
+use Rattle.fam_machine.specs.Sound.{entry_extent, item_extent, IsMemoryOf, IsSoundPiece, IsSoundOperation, HoldsSound, is_sound_kind, IsSoundAtomic}
 use Rattle.fam_machine.proofs.Lists.{bind_some, All-at, both_true, find_number-find}
 use Rattle.fam_machine.proofs.Changes.{extent_of, found-map, mapped_some}
 use Rattle.fam_machine.proofs.Programs.{placed_sound}
@@ -151,3 +151,30 @@ piece_extents rows memory p call j given (Some left) e same holds =
 pub memory_by_piece_extents : (rows : Rows) (memory : Memory) (p : ProgramState) (call j : ℕ) (given : PieceAnswer) → IsMemoryOf rows.items memory → HoldsSound rows p → IsMemoryOf rows.items (memory_by_piece memory p call j given)
 memory_by_piece_extents rows memory p call j given same holds =
     piece_extents rows memory p call j given (placed p call >>= λ at. slice_get at.operation.pieces j) refl same holds
+
+four_true : (a b c d : Bool) → (a && b && c && d) ≡ true → (a ≡ true) × (b ≡ true) × (c ≡ true) × (d ≡ true)
+four_true true true true true e = (refl, refl, refl, refl)
+four_true true true true false e = absurd (false≢true e)
+four_true true true false d e = absurd (false≢true e)
+four_true true false c d e = absurd (false≢true e)
+four_true false b c d e = absurd (false≢true e)
+
+pub atomic_sound : (k : PieceKind) (op : Op) (w : Width) (a b : ℤ) (n : ℕ) → k ≡ kind.Atomic op w a b → IsTrue (is_sound_kind k n) → IsSoundAtomic op w a b n
+atomic_sound k op w a b n e sound =
+    let parts = four_true (is_supported op w) (is_in_range w a) (is_in_range w b) (n == width_bytes w) (subst (λ k. IsTrue (is_sound_kind k n)) e sound) in
+    record { supported = parts.0; first = parts.1; second = parts.2; width = sound_width op w a b n (subst (λ k. IsTrue (is_sound_kind k n)) e sound) }
+
+-- 16 bytes hold a number of any width
+pub width_small : (w : Width) → width_bytes w ≤ 16
+width_small width.I32 = lit≤ tt
+width_small width.U32 = lit≤ tt
+width_small width.I64 = lit≤ tt
+width_small width.U64 = lit≤ tt
+width_small width.I128 = lit≤ tt
+width_small width.F32 = lit≤ tt
+width_small width.F64 = lit≤ tt
+
+-- a sound piece whose item is there lies inside its bytes
+pub found_inside : (rows : Rows) (memory : Memory) (piece : PlanPiece) (row : ItemRow) → IsMemoryOf rows.items memory → IsSoundPiece rows piece → item_of rows piece.item.0 ≡ Some row → piece.offset + piece.n ≤ length (item_bytes memory piece.item.0)
+found_inside rows memory piece row same sound e =
+    let long = bytes_length rows memory piece.item.0 row same e in let inside = sound.inside row e in omega arith

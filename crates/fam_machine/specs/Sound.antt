@@ -1,7 +1,9 @@
 -- What holds of each state of the machine.
-use Rattle.std.specs.Prelude.{◌≡◌, ℕ, ◌+◌, ◌<◌, ◌≤◌, suc, Bool, true, ◌==◌, ◌&&◌, List, map, length, Option, Some, slice_get, IsTrue, All, ⊤}
+use Rattle.std.specs.Prelude.{◌≡◌, ℕ, ◌+◌, ◌<◌, ◌≤◌, suc, Bool, true, ◌==◌, ◌&&◌, List, map, length, Option, Some, None, [], ◌∷◌, replicate, slice_get, IsTrue, All, ⊤, ℤ}
 use Rattle.fam_base.specs.declared.naming.Descriptor.{Descriptor}
 use Rattle.fam_base.specs.declared.naming.ItemId.{ItemId}
+use Rattle.fam_model.specs.declared.call.Op.{Op}
+use Rattle.fam_model.specs.declared.call.Width.{Width}
 use Rattle.fam_model.specs.declared.call.MetaCall.{MetaCall}
 use Rattle.fam_model.specs.declared.call.MetaCall.TheVariants as meta
 use Rattle.fam_model.specs.declared.event.What.{What}
@@ -38,6 +40,11 @@ item_extent row = (item_number row, row.size)
 abbrev pub IsMemoryOf : List ItemRow → List (ItemId × List ℕ) → Type 0
 IsMemoryOf items memory = map entry_extent memory ≡ map item_extent items
 
+-- the bytes of a new item of this number and size: zero
+abbrev pub zero_bytes : Option (ItemId × ℕ) → List (ItemId × List ℕ)
+zero_bytes None = []
+zero_bytes (Some new) = (new.0, replicate new.1 0) ∷ []
+
 -- what programs hold
 
 -- a descriptor that was given out: its item, where it is still there, has that size
@@ -51,6 +58,13 @@ abbrev pub is_sound_kind : PieceKind → ℕ → Bool
 is_sound_kind (kind.Atomic op width a b) n =
     is_supported op width && is_in_range width a && is_in_range width b && n == width_bytes width
 is_sound_kind _ n = true
+
+-- what a sound atomic has
+pub record IsSoundAtomic (op : Op) (w : Width) (a b : ℤ) (n : ℕ) : Type 0 where
+  pub supported : IsTrue (is_supported op w)
+  pub first : IsTrue (is_in_range w a)
+  pub second : IsTrue (is_in_range w b)
+  pub width : n ≡ width_bytes w
 
 -- a piece lies inside its item, where that is still there
 pub record IsSoundPiece (rows : Rows) (piece : PlanPiece) : Type 0 where

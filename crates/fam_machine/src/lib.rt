@@ -1,4 +1,5 @@
 //! The memory machine as a plain program: its step is the definition's.
 #![tactic(auto)]
 
+mod answers;
 mod memory;
