@@ -1,0 +1,9 @@
+//! Gets, puts and atomics in pieces.
+#![tactic(auto)]
+
+mod piece;
+mod planning;
+mod refusal;
+
+pub use piece::{piece_at, reads, writes};
+pub use planning::{kind_of, plan, with_pieces};

@@ -1,0 +1,9 @@
+//! Gathers, scatters and copies in pieces, and so each operation.
+#![tactic(auto)]
+
+mod copy;
+mod element;
+mod planning;
+mod refusal;
+
+pub use planning::plan;
