@@ -1,3 +1,12 @@
 pub mod Searches
+pub mod Served
+pub mod Standing
+pub mod Allotted
+pub mod CommonLaw
+pub mod Edits
 pub mod Gaps
+pub mod Keeping
+pub mod Least
+pub mod Numbering
 pub mod Places
+pub mod Regions

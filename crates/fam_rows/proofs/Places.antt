@@ -14,11 +14,11 @@ use Rattle.std.proofs.lemmas.List.Sums.{position_or_len_is}
 use Rattle.fam_model.specs.Lists.{place_of}
 
 -- where the first place that passes is known, `position` gives it
-position_from : {X : Type 0} (p : X → Bool) (xs : List X) (i : ℕ) → position_or_len p xs ≡ i → i < length xs → position p xs ≡ Some i
+pub position_from : {X : Type 0} (p : X → Bool) (xs : List X) (i : ℕ) → position_or_len p xs ≡ i → i < length xs → position p xs ≡ Some i
 position_from p xs i first in_range = grind (arith, nat_tests)
 
 -- where no place passes, `position` gives none
-position_none : {X : Type 0} (p : X → Bool) (xs : List X) → position_or_len p xs ≡ length xs → position p xs ≡ None
+pub position_none : {X : Type 0} (p : X → Bool) (xs : List X) → position_or_len p xs ≡ length xs → position p xs ≡ None
 position_none p xs first = grind (arith, nat_tests)
 
 module _ {X : Type 0} (number : X → ℕ) where

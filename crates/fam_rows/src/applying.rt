@@ -113,8 +113,8 @@ fn set_item_mode(rows: &mut Rows, number: ItemId, mode: Mode)
     }
 }
 
-/// Makes a lawful change. Where memory is wanting the rows stay as they are.
-pub fn apply(alloc: Global, rows: &mut Rows, change: Change) -> Result<(), NoMemory>
+/// Makes a change, of whichever kind.
+fn make_change(alloc: Global, rows: &mut Rows, change: Change) -> Result<(), NoMemory>
     requires lawful { IsLawful rows.old }
     requires change { IsTrue (is_lawful_change rows.old change) }
     ensures ok { OnOk result (rows.new ≡ words.after rows.old change) }
@@ -190,4 +190,15 @@ pub fn apply(alloc: Global, rows: &mut Rows, change: Change) -> Result<(), NoMem
             Ok(())
         }
     }
+}
+
+/// Makes a lawful change. Where memory is wanting the rows stay as they are.
+pub fn apply(alloc: Global, rows: &mut Rows, change: Change) -> Result<(), NoMemory>
+    requires lawful { IsLawful rows.old }
+    requires change { IsTrue (is_lawful_change rows.old change) }
+    ensures ok { OnOk result (rows.new ≡ words.after rows.old change) }
+    ensures err { OnErr result (rows.new ≡ rows.old) }
+    ensures lawful { IsLawful rows.new }
+{
+    make_change(alloc, rows, change)
 }

@@ -4,7 +4,9 @@
 mod applying;
 mod changing;
 mod finding;
+mod fresh;
 mod lawful;
+mod laws;
 mod limits;
 mod refusing;
 mod room;
@@ -13,7 +15,12 @@ mod search;
 pub use applying::apply;
 pub use changing::{answer, change_at, first_base, may_lie};
 pub use finding::{descriptor, found};
+pub use fresh::common_rows;
 pub use lawful::is_lawful_change;
+pub use laws::{
+    lawful_changes_keep_law, least_base_is_least, numbers_are_never_used_again,
+    served_changes_are_lawful,
+};
 pub use limits::{MAX_ITEMS, MAX_REGION_SIZE, MAX_REGIONS, MAX_TOTAL_SIZE, NOBODY, NUMBER_END};
 pub use refusing::refusal;
 pub use search::{item, item_named, region, region_named};
