@@ -1,7 +1,6 @@
 -- What a context tells of its operations, and how calls change it.
-use Rattle.std.specs.Prelude.{ℕ, ◌+◌, Bool, true, false, not, ◌==◌, ◌&&◌, List, [], ◌∷◌, ◌++◌, map, length, replicate, slice_get, count_by, Option, Some, None, if◌then◌else◌}
+use Rattle.std.specs.Prelude.{ℕ, ◌+◌, Bool, true, false, not, ◌==◌, ◌&&◌, List, [], ◌∷◌, ◌++◌, map, length, replicate, slice_get, count_by, Option, if◌then◌else◌}
 use Rattle.std.specs.Option.{option_map_or, option_map}
-use Rattle.fam_base.specs.declared.error.FamError.{FamError}
 use Rattle.fam_layout.specs.declared.plan.Plan.{Plan}
 use Rattle.fam_model.specs.declared.piece.PieceKind.{PieceKind}
 use Rattle.fam_model.specs.declared.piece.PieceKind.TheVariants as kind
@@ -13,12 +12,14 @@ use Rattle.fam_model.specs.declared.piece.Mark.TheVariants as mark
 use Rattle.fam_model.specs.declared.piece.Operation.{Operation}
 use Rattle.fam_model.specs.declared.reply.PieceAnswer.{PieceAnswer}
 use Rattle.fam_model.specs.declared.reply.PieceAnswer.TheVariants as answer
+use Rattle.fam_model.specs.declared.reply.Reply.{Reply}
 use Rattle.fam_model.specs.declared.state.Context.{Context}
 use Rattle.fam_model.specs.IssueStep.{left_piece}
 use Rattle.fam_model.specs.Lists.{◌>>=◌, when, is_some_and, place_of, change_place}
-use Rattle.fam_model.specs.Operations.{is_left, may_come, is_copy, as_reported}
+use Rattle.fam_model.specs.Operations.{is_left, may_come, is_copy, as_reported, result, reported as all_reported}
 use Rattle.fam_model.specs.PieceStep.{is_copy_read, handed, marked, with_answer, without_piece}
 use Rattle.fam_model.specs.Programs.{call_number, operation_of, with_operation}
+use Rattle.fam_model.specs.Same.{same_reply}
 use Rattle.fam_context.specs.declared.tracked.Tracked.{Tracked}
 
 -- what is told
@@ -51,6 +52,11 @@ left_of context call = option_map left_count (untold_of context call)
 abbrev pub is_copy_of : Context → ℕ → Bool
 is_copy_of context call = is_some_and (untold_of context call) (λ operation. is_copy operation.kind)
 
+-- the operation of a call is there, and this is its result
+abbrev pub is_result_of : Context → ℕ → Reply → Bool
+is_result_of context call given =
+    is_some_and (operation_of context call) (λ operation. same_reply given (result operation))
+
 -- opening, closing and fences
 
 -- the context is not open
@@ -75,12 +81,15 @@ planned_operation call epoch plan blocking =
       pieces = map left_piece plan.pieces;
     }
 
+-- the context with one operation more
+abbrev pub with_one_more : Context → Operation → Context
+with_one_more context operation = record context { operations = context.operations ++ operation ∷ [] }
+
 -- one operation more, with nothing out
 abbrev pub issued : Tracked → ℕ → Plan → Bool → Tracked
 issued t call plan blocking =
-    let operation = planned_operation call t.context.epoch plan blocking in
     record {
-      context = record t.context { operations = t.context.operations ++ operation ∷ [] };
+      context = with_one_more t.context (planned_operation call t.context.epoch plan blocking);
       out = t.out ++ replicate (length plan.pieces) false ∷ [];
     }
 
@@ -166,3 +175,11 @@ lost t call j =
 -- the context once the result of a call was told
 abbrev pub told : Tracked → ℕ → Tracked
 told t call = record t { context = changed t.context call as_reported }
+
+-- the context once all results were told
+abbrev pub reported : Tracked → Tracked
+reported t = record t { context = all_reported t.context }
+
+-- the context once this piece is out
+abbrev pub posted : Tracked → ℕ → ℕ → Tracked
+posted t call j = record t { out = with_flag t call j true }

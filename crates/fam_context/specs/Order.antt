@@ -1,24 +1,17 @@
 -- What holds of the operations of every context.
-use Rattle.std.specs.Prelude.{◌≡◌, ℕ, ◌<◌, ◌≤◌, ◌^◌, Bool, true, false, not, ◌&&◌, ◌||◌, List, [], ◌∷◌, map, length, slice_index, All}
+use Rattle.std.specs.Prelude.{◌≡◌, ℕ, ◌<◌, ◌≤◌, ◌^◌, Bool, true, false, not, ◌&&◌, ◌||◌, List, [], ◌∷◌, map, length, All}
+use Rattle.std.specs.List.{AllPairs}
+use Rattle.fam_layout.specs.declared.plan.Plan.{Plan}
 use Rattle.fam_model.specs.declared.piece.MarkedPiece.{MarkedPiece}
 use Rattle.fam_model.specs.declared.piece.Operation.{Operation}
 use Rattle.fam_model.specs.declared.state.Context.{Context}
 use Rattle.fam_model.specs.Operations.{is_copy}
 use Rattle.fam_model.specs.PieceStep.{is_read}
-use Rattle.fam_model.specs.Programs.{call_number}
 use Rattle.fam_context.specs.declared.tracked.Tracked.{Tracked}
 
 -- a context with what is out
 abbrev pub tracked : Context → List (List Bool) → Tracked
 tracked context out = record { context = context; out = out }
-
--- each number is greater than those before it
-abbrev pub Rises : List ℕ → Type 0
-Rises xs = (i k : ℕ) → i < k → k < length xs → slice_index xs i < slice_index xs k
-
--- no number is less than one before it
-abbrev pub NeverFalls : List ℕ → Type 0
-NeverFalls xs = (i k : ℕ) → i < k → k < length xs → slice_index xs i ≤ slice_index xs k
 
 -- a read and a write in turn: for each piece, whether it reads
 abbrev pub are_in_turn : List Bool → Bool
@@ -29,6 +22,10 @@ are_in_turn (first ∷ second ∷ others) = first && not second && are_in_turn o
 -- for each piece, whether it reads
 abbrev pub reads_of : List MarkedPiece → List Bool
 reads_of pieces = map (λ p. is_read p.piece.kind) pieces
+
+-- the pieces of a plan read and write in turn where it is a copy
+abbrev pub is_planned_in_turn : Plan → Bool
+is_planned_in_turn plan = not (is_copy plan.kind) || are_in_turn (map (λ p. is_read p.kind) plan.pieces)
 
 -- what of an operation never changes
 pub record Frame : Type 0 where
@@ -46,14 +43,18 @@ pub record IsFrame (frame : Frame) : Type 0 where
   pub turns : not frame.is_copy || are_in_turn frame.reads ≡ true
   pub numbers : length frame.reads < 2 ^ 32
 
--- calls rise, epochs never fall and do not pass the context's
+-- calls rise and epochs do not fall
+pub record IsBefore (earlier later : Frame) : Type 0 where
+  pub calls : earlier.call < later.call
+  pub epochs : earlier.epoch ≤ later.epoch
+
+-- operations are in order of call and of epoch, up to the context's, and each of them is well made
 pub record AreInOrder (last : ℕ) (frames : List Frame) : Type 0 where
-  pub calls : Rises (map (λ frame. frame.call) frames)
-  pub epochs : NeverFalls (map (λ frame. frame.epoch) frames)
+  pub pairs : AllPairs IsBefore frames
   pub latest : All (λ frame. frame.epoch ≤ last) frames
   pub each : All IsFrame frames
 
--- operations are in order of call and of epoch, copies read and write in turn, and there is a flag for each piece
+-- operations are in order, and each of their pieces has a flag
 pub record IsOrdered (t : Tracked) : Type 0 where
   pub order : AreInOrder t.context.epoch (map frame_of t.context.operations)
-  pub flags : map (length {A = Bool}) t.out ≡ map (λ operation. length operation.pieces) t.context.operations
+  pub flags : map (length {A = Bool}) t.out ≡ map (λ frame. length frame.reads) (map frame_of t.context.operations)

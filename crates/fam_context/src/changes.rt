@@ -1,15 +1,17 @@
 //! How calls change an operation and the flags of its pieces.
 
-ghost use Rattle.std.specs.Prelude.{◌≡◌, ◌<◌, ◌^◌, false, map, replicate, slice_get, IfOk};
+ghost use Rattle.std.specs.Prelude.{◌≡◌, ◌<◌, ◌^◌, ◌++◌, ◌∷◌, [], false, map, replicate, slice_get, IfOk, OnOk, OnErr};
 ghost use Rattle.fam_model.specs.IssueStep.{left_piece};
 ghost use Rattle.fam_model.specs.Lists.{is_some_and, change_place};
 ghost use Rattle.fam_model.specs.PieceStep.{handed, marked, is_copy_read};
 ghost use Rattle.fam_model.specs.declared.reply.PieceAnswer.TheVariants as answers;
-ghost use Rattle.fam_context.specs.Effects.{handed_over, with_collected, with_lost};
+ghost use Rattle.fam_context.specs.Effects.{handed_over, planned_operation, with_collected, with_lost, with_one_more};
+ghost use Rattle.fam_model.specs.Operations.{as_reported};
 
 use crate::words::is_copy_read;
 use fam_base::{Bytes, NoMemory, Sequence};
-use fam_model::{Mark, MarkedPiece, Operation, PieceAnswer, PlanPiece};
+use fam_layout::Plan;
+use fam_model::{Context, Mark, MarkedPiece, Operation, PieceAnswer, PlanPiece};
 use std::alloc::Global;
 
 /// These pieces, all left.
@@ -113,13 +115,66 @@ pub(crate) fn lose(operation: &mut Operation, j: usize)
 }
 
 /// Sets a flag, if it is there.
-pub(crate) fn set_flag(out: &mut Sequence<Sequence<bool>>, k: usize, j: usize, flag: bool)
-    ensures { out.new ≡ change_place k (change_place j (λ _. flag)) out.old }
+pub(crate) fn set_flag(out: &mut Vec<Sequence<bool>>, k: usize, j: usize, flag: bool)
+    ensures { out.new.items ≡ change_place k (change_place j (λ _. flag)) out.old.items }
 {
     if k < out.len() {
-        let flags = out.at_mut(k);
+        let flags = &mut out[k];
         if j < flags.len() {
             *flags.at_mut(j) = flag;
         }
+    }
+}
+
+/// The operation of a plan, with all its pieces left.
+pub(crate) fn planned(
+    alloc: Global,
+    call: u64,
+    epoch: u64,
+    plan: Plan,
+    blocking: bool,
+) -> Result<Operation, NoMemory>
+    ensures { IfOk result (λ operation. operation ≡ planned_operation call epoch plan blocking) }
+{
+    let Plan { kind, pieces } = plan;
+    let pieces = all_left(alloc, pieces)?;
+    Ok(Operation {
+        call,
+        epoch,
+        kind,
+        blocking,
+        reported: false,
+        pieces,
+    })
+}
+
+/// Adds an operation and the flags of its pieces. After want of memory both lists are as they were.
+pub(crate) fn add(
+    context: &mut Context,
+    out: &mut Vec<Sequence<bool>>,
+    operation: Operation,
+    flags: Sequence<bool>,
+) -> Result<(), NoMemory>
+    ensures context_ok { OnOk result (context.new ≡ with_one_more context.old operation) }
+    ensures out_ok { OnOk result (out.new.items ≡ out.old.items ++ flags ∷ []) }
+    ensures context_err { OnErr result (context.new ≡ context.old) }
+    ensures out_err { OnErr result (out.new.items ≡ out.old.items) }
+{
+    if out.push(flags).is_err() {
+        return Err(NoMemory);
+    }
+    if context.operations.push(operation).is_err() {
+        out.pop();
+        return Err(NoMemory);
+    }
+    Ok(())
+}
+
+/// Marks all these as reported.
+pub(crate) fn report_all(operations: &mut Sequence<Operation>)
+    ensures { operations.new ≡ map as_reported operations.old }
+{
+    for at in 0..operations.len() {
+        operations.at_mut(at).reported = true;
     }
 }

@@ -2,14 +2,17 @@
 
 ghost use Rattle.std.specs.Prelude.{◌≡◌, ◌<◌, ◌+◌, ◌^◌, false, [], map, length, option_copied, option_map, IsTrue, IsFalse, IsSome, IsOk, IfOk, OnOk, OnErr, All, not};
 
-use crate::changes::{all_left, collect, lose, none_out, set_flag};
-use crate::tracked::Tracked;
-use crate::words;
+use crate::changes::{add, collect, lose, none_out, planned, report_all, set_flag};
+use crate::words::flag_at;
+use crate::{results, words};
 use fam_base::{NoMemory, Sequence};
 use fam_layout::Plan;
-use fam_model::{Operation, PieceAnswer, PlanKind, PlanPiece};
+use fam_model::{PieceAnswer, PlanKind, PlanPiece, Reply};
 use std::alloc::Global;
 use std::marker::Model;
+
+/// The numbers of pieces have 32 bits.
+const MOST_PIECES: usize = 4_294_967_295;
 
 /// The operations of a context, in order of their calls' numbers. Contracts see the context of the
 /// definitions, and which pieces are out.
@@ -17,7 +20,7 @@ use std::marker::Model;
 pub struct Context {
     alloc: Global,
     context: fam_model::Context,
-    out: Sequence<Sequence<bool>>,
+    out: Vec<Sequence<bool>>,
 }
 
 impl Model for Context {
@@ -27,9 +30,9 @@ impl Model for Context {
 
     ghost use Rattle.fam_context.specs.Order.{IsOrdered, tracked};
 
-    ghost view = { λ c. tracked c.context c.out };
+    ghost view = { λ c. tracked c.context c.out.items };
 
-    ghost invariant = { λ c. IsOrdered (tracked c.context c.out) };
+    ghost invariant = { λ c. IsOrdered (tracked c.context c.out.items) };
 }
 
 impl Context {
@@ -37,9 +40,10 @@ impl Context {
     ghost use Rattle.fam_model.specs.Lists.{place_of};
     ghost use Rattle.fam_model.specs.Operations as operations;
     ghost use Rattle.fam_model.specs.Opened.{closed_context};
+    ghost use Rattle.fam_model.specs.Same.{same_reply};
     ghost use Rattle.fam_model.specs.Programs.{call_number, has_operation, operation_of};
     ghost use Rattle.fam_context.specs.Effects as effects;
-    ghost use Rattle.fam_context.specs.Order.{IsOrdered, tracked};
+    ghost use Rattle.fam_context.specs.Order.{IsOrdered, tracked, is_planned_in_turn};
 
     /// An open context at epoch 0, without operations.
     pub fn new(alloc: Global) -> Context
@@ -52,7 +56,7 @@ impl Context {
                 epoch: 0,
                 operations: Sequence::new(alloc),
             },
-            out: Sequence::new(alloc),
+            out: Vec::new(alloc),
         }
     }
 
@@ -67,7 +71,7 @@ impl Context {
                 epoch: 0,
                 operations: Sequence::new(alloc),
             },
-            out: Sequence::new(alloc),
+            out: Vec::new(alloc),
         }
     }
 
@@ -79,7 +83,7 @@ impl Context {
         self.context.is_open = true;
         self.context.epoch = 0;
         self.context.operations = Sequence::new(self.alloc);
-        self.out = Sequence::new(self.alloc);
+        self.out = Vec::new(self.alloc);
     }
 
     /// The context is not open any more. Its operations stay.
@@ -135,5 +139,176 @@ impl Context {
             Some(operation) => words::may_come(&self.context, operation, piece as usize),
             None => false,
         }
+    }
+
+    /// Whether the piece is there and left.
+    pub fn is_left(&self, call: u64, piece: u32) -> bool
+        ensures { result ≡ effects.is_left_of self.now.context call piece }
+    {
+        match words::find(&self.context, call) {
+            Some(operation) => words::has_left_at(operation, piece as usize),
+            None => false,
+        }
+    }
+
+    /// A piece of an operation. A copy's write has the bytes of its read once that was collected.
+    pub fn piece(&self, call: u64, piece: u32) -> &PlanPiece
+        requires { IsSome (effects.piece_of self.now.context call piece) }
+        ensures { option_map (λ p. p.piece) (effects.piece_of self.now.context call piece) ≡ Some result.now }
+    {
+        match words::find(&self.context, call) {
+            Some(operation) => &operation.pieces.at(piece as usize).piece,
+            None => unreachable!(),
+        }
+    }
+
+    /// What an operation gives back.
+    pub fn kind(&self, call: u64) -> PlanKind
+        requires { IsTrue (has_operation self.now.context call) }
+        ensures { option_map (λ operation. operation.kind) (operation_of self.now.context call) ≡ Some result }
+    {
+        match words::find(&self.context, call) {
+            Some(operation) => operation.kind,
+            None => unreachable!(),
+        }
+    }
+
+    /// How many pieces are left of an operation whose result was not told. None where there is none.
+    pub fn left(&self, call: u64) -> Option<u64>
+        ensures { result ≡ effects.left_of self.now.context call }
+    {
+        match words::find(&self.context, call) {
+            Some(operation) if !operation.reported => Some(words::left_count(operation)),
+            _ => None,
+        }
+    }
+
+    /// Whether there is a copy of the call whose result was not told.
+    pub fn is_copy(&self, call: u64) -> bool
+        ensures { result ≡ effects.is_copy_of self.now.context call }
+    {
+        match words::find(&self.context, call) {
+            Some(operation) => !operation.reported && words::is_copy(operation.kind),
+            None => false,
+        }
+    }
+
+    /// Whether there is an operation of the call, and this is its result.
+    pub fn result_is(&self, call: u64, given: &Reply) -> bool
+        ensures { result ≡ effects.is_result_of self.now.context call given.now }
+    {
+        match words::find(&self.context, call) {
+            Some(operation) => results::is_result(operation, given),
+            None => false,
+        }
+    }
+
+    /// Whether this is the report of all nonblocking operations that were not reported yet.
+    pub fn report_is(&self, given: &Reply) -> bool
+        ensures { result ≡ same_reply given.now (operations.report self.now.context) }
+    {
+        results::is_report(&self.context, given)
+    }
+
+    /// A new operation, with all its pieces left and none out. After want of memory all is as it was.
+    pub fn issue(&mut self, call: u64, plan: Plan, blocking: bool) -> Result<(), NoMemory>
+        requires later { All (λ operation. operation.call < call) self.old.context.operations }
+        requires turns { IsTrue (is_planned_in_turn plan) }
+        ensures ok { OnOk result (self.new ≡ effects.issued self.old call plan blocking) }
+        ensures err { OnErr result (self.new ≡ self.old) }
+    {
+        if plan.pieces.len() > MOST_PIECES {
+            return Err(NoMemory);
+        }
+        let flags = none_out(self.alloc, plan.pieces.len())?;
+        let operation = planned(self.alloc, call, self.context.epoch, plan, blocking)?;
+        add(&mut self.context, &mut self.out, operation, flags)
+    }
+
+    /// A piece is answered. A copy's read is answered with the bytes that it read: it is then done, and its
+    /// write has them. With a refused read its write is gone.
+    pub fn collected(&mut self, call: u64, piece: u32, answer: PieceAnswer)
+        requires { IsTrue (effects.may_collect self.old.context call piece answer) }
+        ensures { self.new ≡ effects.collected self.old call piece answer }
+    {
+        let Some(at) = words::place_of(&self.context, call) else {
+            return;
+        };
+        collect(
+            self.alloc,
+            self.context.operations.at_mut(at),
+            piece as usize,
+            answer,
+        );
+        set_flag(&mut self.out, at, piece as usize, false);
+    }
+
+    /// A piece is lost, and with a copy's read its write.
+    pub fn lose(&mut self, call: u64, piece: u32)
+        requires { IsTrue (effects.is_left_of self.old.context call piece) }
+        ensures { self.new ≡ effects.lost self.old call piece }
+    {
+        let Some(at) = words::place_of(&self.context, call) else {
+            return;
+        };
+        lose(self.context.operations.at_mut(at), piece as usize);
+        set_flag(&mut self.out, at, piece as usize, false);
+    }
+
+    /// The result of an operation was told.
+    pub fn mark_answered(&mut self, call: u64)
+        requires { IsTrue (has_operation self.old.context call) }
+        ensures { self.new ≡ effects.told self.old call }
+    {
+        let Some(at) = words::place_of(&self.context, call) else {
+            return;
+        };
+        self.context.operations.at_mut(at).reported = true;
+    }
+
+    /// All results were told.
+    pub fn mark_reported(&mut self)
+        ensures { self.new ≡ effects.reported self.old }
+    {
+        report_all(&mut self.context.operations);
+    }
+
+    /// Whether the piece may come and is not out.
+    pub fn may_post(&self, call: u64, piece: u32) -> bool
+        ensures { result ≡ effects.may_post self.now call piece }
+    {
+        self.may_come(call, piece) && !self.is_out(call, piece)
+    }
+
+    /// Whether the piece is out.
+    fn is_out(&self, call: u64, piece: u32) -> bool
+        ensures { result ≡ effects.is_out self.now call piece }
+    {
+        match words::place_of(&self.context, call) {
+            Some(at) => flag_at(self.out.as_slice(), at, piece as usize),
+            None => false,
+        }
+    }
+
+    /// A piece is posted: it is out from now on.
+    pub fn posted(&mut self, call: u64, piece: u32)
+        requires { IsTrue (effects.may_post self.old call piece) }
+        ensures { self.new ≡ effects.posted self.old call piece }
+    {
+        if let Some(at) = words::place_of(&self.context, call) {
+            set_flag(&mut self.out, at, piece as usize, true);
+        }
+    }
+
+    /// The results of all nonblocking operations that were not reported yet, in order of call. All results are
+    /// then told. After want of memory all is as it was.
+    pub fn report(&mut self) -> Result<Reply, NoMemory>
+        requires { IsFalse (operations.is_pending self.old.context) }
+        ensures ok { IfOk result (λ reply. (reply ≡ operations.report self.old.context) × (self.new ≡ effects.reported self.old)) }
+        ensures err { OnErr result (self.new ≡ self.old) }
+    {
+        let results = results::results_of(self.alloc, self.context.operations.as_slice())?;
+        self.mark_reported();
+        Ok(Reply::Report(results))
     }
 }

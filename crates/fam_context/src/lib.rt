@@ -3,6 +3,7 @@
 
 mod changes;
 mod context;
+mod results;
 mod tracked;
 mod words;
 

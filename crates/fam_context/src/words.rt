@@ -8,6 +8,7 @@ ghost use Rattle.fam_model.specs.PieceStep.{is_read};
 ghost use Rattle.fam_model.specs.Programs.{call_number, has_operation, operation_of};
 ghost use Rattle.fam_context.specs.Effects.{left_count};
 
+use fam_base::Sequence;
 use fam_model::{Context, Mark, MarkedPiece, Operation, PieceAnswer, PieceKind, PlanKind};
 
 pub(crate) fn place_of(context: &Context, call: u64) -> Option<usize>
@@ -51,7 +52,11 @@ pub(crate) fn is_left(piece: &MarkedPiece) -> bool
 pub(crate) fn has_left(operation: &Operation) -> bool
     ensures { result ≡ operations.has_left operation.now }
 {
-    operation.pieces.as_slice().iter().any(|piece| is_left(piece))
+    operation
+        .pieces
+        .as_slice()
+        .iter()
+        .any(|piece| is_left(piece))
 }
 
 pub(crate) fn left_count(operation: &Operation) -> u64
@@ -119,7 +124,7 @@ fn has_its_bytes(operation: &Operation, j: usize) -> bool
     }
 }
 
-fn has_left_at(operation: &Operation, j: usize) -> bool
+pub(crate) fn has_left_at(operation: &Operation, j: usize) -> bool
     ensures { result ≡ is_some_and (slice_get operation.now.pieces j) operations.is_left }
 {
     match operation.pieces.get(j) {
@@ -141,5 +146,17 @@ pub(crate) fn is_copy_read(plan: PlanKind, kind: PieceKind) -> bool
     match kind {
         PieceKind::Read => is_copy(plan),
         _ => false,
+    }
+}
+
+pub(crate) fn flag_at(out: &[Sequence<bool>], k: usize, j: usize) -> bool
+    ensures { result ≡ is_some_and (slice_get out.now k) (λ flags. is_some_and (slice_get flags j) (λ flag. flag)) }
+{
+    match out.get(k) {
+        Some(flags) => match flags.get(j) {
+            Some(flag) => *flag,
+            None => false,
+        },
+        None => false,
     }
 }
