@@ -1,4 +1,4 @@
-use Rattle.std.proofs.Common.{◌-ℤ◌, FitsSigned, to_z, of_z, rules}
+use Rattle.std.proofs.Common.{◌-ℤ◌, FitsSigned, rules}
 use Rattle.std.specs.Int.{w128}
 use Rattle.std.proofs.lemmas.Int.{to_z-of_z}
 use Rattle.word_ops.proofs.Ranges.{difference_fits}

@@ -1,0 +1,5 @@
+pub mod Held
+pub mod Budget
+pub mod Slots
+pub mod Steps
+pub mod View
