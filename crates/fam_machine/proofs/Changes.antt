@@ -6,8 +6,8 @@ use Rattle.std.specs.List.Sorted.{IsStrictlyIncreasing}
 use Rattle.std.proofs.lemmas.Bool.{false≢true}
 use Rattle.std.proofs.lemmas.Bool.Decides.{nat_tests}
 use Rattle.std.proofs.lemmas.Grind.{common_steps}
-use Rattle.std.proofs.lemmas.List.{map-append, length-replicate, append-nil}
-use Rattle.std.proofs.lemmas.List.Elements.{All-cons, All-tail, All-head, All-nil, All-filter}
+use Rattle.std.proofs.lemmas.List.{map-append, length-map, length-replicate, append-nil, get_or-map}
+use Rattle.std.proofs.lemmas.List.Elements.{All-cons, All-tail, All-head, All-nil, All-filter, All-map}
 use Rattle.std.proofs.lemmas.List.Folds.{find-append}
 use Rattle.std.proofs.lemmas.Option.{none-some, same_Some}
 use Rattle.fam_base.specs.declared.naming.ItemId.{ItemId}
@@ -246,3 +246,36 @@ memory_follows rows (change.SetItemMode item mode) memory lawful same =
     (map-change_number item_extent item_number item.0 (λ row. record row { mode = mode }) rows.items (λ row. refl)))
 memory_follows rows (change.Skip next_region next_item) memory lawful same =
     nothing_more rows.items _ _ (memory_same rows.items rows.items memory same lawful.item_numbers_rise refl)
+
+-- allocations
+
+unmapped : {A B : Type 0} (P : B → Type 0) (f : A → B) (xs : List A) → All P (map f xs) → All (λ x. P (f x)) xs
+unmapped P f xs all k d lt = subst P (get_or-map f xs k d (f d) lt) (all k (f d) (omega (arith, length-map xs f)))
+
+-- memory keeps the bytes of all items where one more is there
+old_kept : (items : List ItemRow) (added : ItemRow) (memory : Memory) → IsMemoryOf items memory → IsStrictlyIncreasing (map item_number items) → filter (λ entry. is_some (find_number item_number entry.0.0 (items ++ added ∷ []))) memory ≡ memory
+old_kept items added memory same rise =
+    let now = items ++ added ∷ [] in
+    let is_there : ℕ × ℕ → Type 0 = λ e. is_some (find_number item_number e.0 now) ≡ true in
+    let rows : All (λ row. is_there (item_extent row)) items = λ k d lt.
+    let n = item_number (get_or items k d) in
+    ap is_some (find_number-find item_number n now ∙ find-append (λ row. item_number row == n) items (added ∷ []))
+    ∙ some-or (find (λ row. item_number row == n) items) (find (λ row. item_number row == n) (added ∷ [])) (all_found item_number items rise k d lt)
+    in
+    let extents : All is_there (map entry_extent memory) = subst (All is_there) (sym same) (All-map is_there item_extent items rows) in
+    let entries : All (λ entry. is_there (entry_extent entry)) memory = unmapped is_there entry_extent memory extents in
+    filter_agree_on (λ entry. is_some (find_number item_number entry.0.0 now)) (λ entry. true) memory entries ∙ filter_all memory
+
+-- a change that makes an item adds its bytes, and leaves those of the others
+pub memory_with_new : (rows : Rows) (chosen : Change) (memory : Memory) (new : ItemId × List ℕ) → IsLawful rows → IsMemoryOf rows.items memory → new_bytes chosen ≡ new ∷ [] → memory_after rows chosen memory ≡ memory ++ new ∷ []
+memory_with_new rows (change.Allocate item region base size uid gid mode name) memory new lawful same e =
+    (λ i. old_kept rows.items (record { number = item; region = region; base = base; size = size; uid = uid; gid = gid; mode = mode; name = name }) memory same lawful.item_numbers_rise i ++ e i)
+memory_with_new rows chosen memory new lawful same e = absurd (no_bytes e)
+  where
+    no_bytes : ◌≡◌ {A = Memory} [] (new ∷ []) → ⊥
+    no_bytes e = cc
+
+-- a change that makes none only drops bytes
+pub memory_without_new : (rows : Rows) (chosen : Change) (memory : Memory) → new_bytes chosen ≡ [] → memory_after rows chosen memory ≡ filter (λ entry. is_some (item_of (after rows chosen) entry.0.0)) memory
+memory_without_new rows chosen memory e =
+    let kept = filter (λ entry. is_some (item_of (after rows chosen) entry.0.0)) memory in ap (λ new. kept ++ new) e ∙ append-nil kept

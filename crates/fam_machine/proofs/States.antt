@@ -37,6 +37,9 @@ use Rattle.fam_model.specs.Rows.{IsLawful}
 use Rattle.fam_model.specs.Shape.{is_shaped}
 use Rattle.fam_model.specs.Step.{effect, step}
 use Rattle.fam_model.specs.Turn.{is_in_turn, is_next, is_idle, call_made, answers_started}
+use Rattle.fam_rows.specs.Laws.{asked_mode}
+use Rattle.fam_rows.proofs.Keeping.{keeps_law}
+use Rattle.fam_rows.proofs.Served.{told_lawful}
 use Rattle.fam_machine.specs.Sound.{HoldsSound, IsOnTime, IsSoundProgram, IsSound, IsMemoryOf, call_mode, HasModes}
 use Rattle.fam_machine.proofs.Bytes.{memory_by_piece_extents}
 use Rattle.fam_machine.proofs.Changes.{KeepsItems, keeps_items, memory_follows, mapped_some}
@@ -46,32 +49,19 @@ use Rattle.fam_machine.proofs.Programs.{IsNext, counted_next, open_next, fence_n
 use Rattle.fam_machine.proofs.Rounds.{next_bound, program_next, AreOnTime, on_time_after, arrive_on_time, leave_on_time, crash_on_time, Keeps, arrive_keeps, leave_keeps, crash_keeps}
 use Rattle.fam_machine.proofs.Told.{rows_after, meta_next, step_change, holds_kept}
 
--- the mode that a request gives, and 0 where it gives none
-abbrev pub request_mode : Request → ℕ
-request_mode (request.CreateRegion name size mode) = mode
-request_mode (request.SetRegionMode region mode) = mode
-request_mode (request.Allocate name size mode region) = mode
-request_mode (request.SetItemMode item mode) = mode
-request_mode _ = 0
-
--- the laws of the directory
-pub record DirectoryLaws : Type 0 where
-  pub told : (rows : Rows) (who : Who) (request : Request) (given : Reply) (chosen : Change) → IsLawful rows → who.uid < nobody → request_mode request ≤ 511 → told_change rows who request given ≡ Some chosen → IsTrue (is_lawful_change rows chosen)
-  pub after : (rows : Rows) (chosen : Change) → IsLawful rows → IsTrue (is_lawful_change rows chosen) → IsLawful (after rows chosen)
-
 -- the mode of a call is that of its request
-mode_made : (p : ProgramState) (asked : MetaCall) (made : Request) → request_of p asked ≡ Some made → request_mode made ≡ call_mode asked
-mode_made p (meta.CreateRegion slot name size mode) made e = sym (ap request_mode (same_Some _ made e))
-mode_made p (meta.DestroyRegion slot) made e = let there = bind_some (region_slot p slot) _ made e in sym (ap request_mode (same_Some _ made there.2))
-mode_made p (meta.ResizeRegion slot size) made e = let there = bind_some (region_slot p slot) _ made e in sym (ap request_mode (same_Some _ made there.2))
-mode_made p (meta.SetRegionMode slot mode) made e = let there = bind_some (region_slot p slot) _ made e in sym (ap request_mode (same_Some _ made there.2))
-mode_made p (meta.LookupRegion slot name) made e = sym (ap request_mode (same_Some _ made e))
-mode_made p (meta.StatRegion slot) made e = let there = bind_some (region_slot p slot) _ made e in sym (ap request_mode (same_Some _ made there.2))
-mode_made p (meta.Allocate slot name size mode from) made e = let there = bind_some (region_slot p from) _ made e in sym (ap request_mode (same_Some _ made there.2))
-mode_made p (meta.Deallocate slot) made e = let there = bind_some (item_slot p slot) _ made e in sym (ap request_mode (same_Some _ made there.2))
-mode_made p (meta.SetItemMode slot mode) made e = let there = bind_some (item_slot p slot) _ made e in sym (ap request_mode (same_Some _ made there.2))
-mode_made p (meta.Lookup slot name region) made e = sym (ap request_mode (same_Some _ made e))
-mode_made p (meta.Stat slot) made e = let there = bind_some (item_slot p slot) _ made e in sym (ap request_mode (same_Some _ made there.2))
+mode_made : (p : ProgramState) (asked : MetaCall) (made : Request) → request_of p asked ≡ Some made → asked_mode made ≡ call_mode asked
+mode_made p (meta.CreateRegion slot name size mode) made e = sym (ap asked_mode (same_Some _ made e))
+mode_made p (meta.DestroyRegion slot) made e = let there = bind_some (region_slot p slot) _ made e in sym (ap asked_mode (same_Some _ made there.2))
+mode_made p (meta.ResizeRegion slot size) made e = let there = bind_some (region_slot p slot) _ made e in sym (ap asked_mode (same_Some _ made there.2))
+mode_made p (meta.SetRegionMode slot mode) made e = let there = bind_some (region_slot p slot) _ made e in sym (ap asked_mode (same_Some _ made there.2))
+mode_made p (meta.LookupRegion slot name) made e = sym (ap asked_mode (same_Some _ made e))
+mode_made p (meta.StatRegion slot) made e = let there = bind_some (region_slot p slot) _ made e in sym (ap asked_mode (same_Some _ made there.2))
+mode_made p (meta.Allocate slot name size mode from) made e = let there = bind_some (region_slot p from) _ made e in sym (ap asked_mode (same_Some _ made there.2))
+mode_made p (meta.Deallocate slot) made e = let there = bind_some (item_slot p slot) _ made e in sym (ap asked_mode (same_Some _ made there.2))
+mode_made p (meta.SetItemMode slot mode) made e = let there = bind_some (item_slot p slot) _ made e in sym (ap asked_mode (same_Some _ made there.2))
+mode_made p (meta.Lookup slot name region) made e = sym (ap asked_mode (same_Some _ made e))
+mode_made p (meta.Stat slot) made e = let there = bind_some (item_slot p slot) _ made e in sym (ap asked_mode (same_Some _ made there.2))
 
 -- states with one program changed
 
@@ -160,12 +150,12 @@ record IsServed (state : State) (chosen : Option Change) : Type 0 where
   keeps : KeepsItems state.rows (rows_after state.rows chosen)
   filled : IsMemoryOf (rows_after state.rows chosen).items (changed state chosen).memory
 
-served : (laws : DirectoryLaws) (state : State) (chosen : Option Change) → IsSound state → ((change : Change) → chosen ≡ Some change → IsTrue (is_lawful_change state.rows change)) → IsServed state chosen
-served laws state None sound lawful =
+served : (state : State) (chosen : Option Change) → IsSound state → ((change : Change) → chosen ≡ Some change → IsTrue (is_lawful_change state.rows change)) → IsServed state chosen
+served state None sound lawful =
     record { lawful = sound.lawful; keeps = record { next = omega arith; items = λ n row lt e. (row, e, refl) }; filled = sound.filled }
-served laws state (Some change) sound lawful =
+served state (Some change) sound lawful =
     record {
-      lawful = laws.after state.rows change sound.lawful (lawful change refl);
+      lawful = keeps_law state.rows change sound.lawful (lawful change refl);
       keeps = keeps_items state.rows change sound.lawful (lawful change refl);
       filled = memory_follows state.rows change state.memory sound.lawful sound.filled;
     }
@@ -189,17 +179,17 @@ changed_sound state pe p q (Some change) sound program less is_served is_next =
     }
 
 -- the change of a step of a call on the directory is lawful
-change_lawful : (laws : DirectoryLaws) (state : State) (p q : ProgramState) (asked : MetaCall) (given : Reply) → IsSound state → IsSoundProgram state.rows state.round p → call_mode asked ≤ 511 → meta_step state.rows p asked given ≡ Some q → (change : Change) → served_change state.rows p asked given ≡ Some change → IsTrue (is_lawful_change state.rows change)
-change_lawful laws state p q asked given sound program small e change f =
+change_lawful : (state : State) (p q : ProgramState) (asked : MetaCall) (given : Reply) → IsSound state → IsSoundProgram state.rows state.round p → call_mode asked ≤ 511 → meta_step state.rows p asked given ≡ Some q → (change : Change) → served_change state.rows p asked given ≡ Some change → IsTrue (is_lawful_change state.rows change)
+change_lawful state p q asked given sound program small e change f =
     let made = step_change state.rows p q asked given e in
     let mode = mode_made p asked made.0 made.1 in
-    laws.told state.rows p.who made.0 given change sound.lawful program.user (omega arith) (sym made.2 ∙ f)
+    told_lawful state.rows p.who made.0 given change sound.lawful program.user (omega arith) (sym made.2 ∙ f)
 
-meta_sound : (laws : DirectoryLaws) (state next : State) (pe : ℕ) (p : ProgramState) (asked : MetaCall) (given : Reply) → IsSound state → IsSoundProgram state.rows state.round p → p.next_call < number_end → call_mode asked ≤ 511 → option_map (with_program (changed state (served_change state.rows p asked given)) pe) (meta_step state.rows p asked given) ≡ Some next → IsSound next
-meta_sound laws state next pe p asked given sound program less small e =
+meta_sound : (state next : State) (pe : ℕ) (p : ProgramState) (asked : MetaCall) (given : Reply) → IsSound state → IsSoundProgram state.rows state.round p → p.next_call < number_end → call_mode asked ≤ 511 → option_map (with_program (changed state (served_change state.rows p asked given)) pe) (meta_step state.rows p asked given) ≡ Some next → IsSound next
+meta_sound state next pe p asked given sound program less small e =
     let chosen = served_change state.rows p asked given in
     let q = mapped_some (with_program (changed state chosen) pe) (meta_step state.rows p asked given) next e in
-    let is_served = served laws state chosen sound (change_lawful laws state p q.0 asked given sound program small q.1) in
+    let is_served = served state chosen sound (change_lawful state p q.0 asked given sound program small q.1) in
     subst IsSound q.2
     (changed_sound state pe p q.0 chosen sound program less is_served (meta_next state.rows p q.0 asked given sound.lawful is_served.keeps program.holds q.1))
 
@@ -217,50 +207,50 @@ piece_sound limits state next pe p call piece given sound program e =
 
 -- all events
 
-pub effect_sound : (laws : DirectoryLaws) (limits : Limits) (state next : State) (pe : ℕ) (p : ProgramState) (call : ℕ) (made : What) → HasModes made → IsSound state → IsSoundProgram state.rows state.round p → is_in_turn p call made ≡ true → effect limits state pe p call made ≡ Some next → IsSound next
-effect_sound laws limits state next pe p call (what.Meta asked given) modes sound program t e =
-    meta_sound laws state next pe p asked given sound program (in_turn p call (call_made (what.Meta asked given)) t).bound modes e
-effect_sound laws limits state next pe p call (what.Issue asked given) modes sound program t e =
+pub effect_sound : (limits : Limits) (state next : State) (pe : ℕ) (p : ProgramState) (call : ℕ) (made : What) → HasModes made → IsSound state → IsSoundProgram state.rows state.round p → is_in_turn p call made ≡ true → effect limits state pe p call made ≡ Some next → IsSound next
+effect_sound limits state next pe p call (what.Meta asked given) modes sound program t e =
+    meta_sound state next pe p asked given sound program (in_turn p call (call_made (what.Meta asked given)) t).bound modes e
+effect_sound limits state next pe p call (what.Issue asked given) modes sound program t e =
     let turn = in_turn p call (Some asked) t in
     call_sound state next pe p (issue_step state.service p asked given) sound program turn.bound
     (λ q f. issue_next state.rows state.service p q asked given program.holds turn.shaped f) e
-effect_sound laws limits state next pe p call (what.Piece piece given) modes sound program t e =
+effect_sound limits state next pe p call (what.Piece piece given) modes sound program t e =
     piece_sound limits state next pe p call piece given sound program e
-effect_sound laws limits state next pe p call (what.Answer given) modes sound program t e =
+effect_sound limits state next pe p call (what.Answer given) modes sound program t e =
     event_sound state next pe p (answer_step p.started state.round p given) sound program
     (λ q f. answer_next state.rows p.started state.round p q given program.holds f) e
-effect_sound laws limits state next pe p call (what.OpenContext context) modes sound program t e =
+effect_sound limits state next pe p call (what.OpenContext context) modes sound program t e =
     call_sound state next pe p (open_step p context) sound program (in_turn p call (call_made (what.OpenContext context)) t).bound (λ q f. open_next state.rows p q context program.holds f) e
-effect_sound laws limits state next pe p call (what.CloseContext context given) modes sound program t e =
+effect_sound limits state next pe p call (what.CloseContext context given) modes sound program t e =
     call_sound state next pe p (close_step p context given) sound program (in_turn p call (call_made (what.CloseContext context given)) t).bound (λ q f. close_next state.rows p q context given program.holds f) e
-effect_sound laws limits state next pe p call (what.Fence context) modes sound program t e =
+effect_sound limits state next pe p call (what.Fence context) modes sound program t e =
     call_sound state next pe p (fence_step p context) sound program (in_turn p call (call_made (what.Fence context)) t).bound (λ q f. fence_next state.rows p q context program.holds f) e
-effect_sound laws limits state next pe p call (what.Quiet context given) modes sound program t e =
+effect_sound limits state next pe p call (what.Quiet context given) modes sound program t e =
     call_sound state next pe p (quiet_step p context given) sound program (in_turn p call (call_made (what.Quiet context given)) t).bound (λ q f. quiet_next state.rows p q context given program.holds f) e
-effect_sound laws limits state next pe p call (what.Wait context named given) modes sound program t e =
+effect_sound limits state next pe p call (what.Wait context named given) modes sound program t e =
     call_sound state next pe p (wait_step p context named given) sound program (in_turn p call (call_made (what.Wait context named given)) t).bound (λ q f. wait_next state.rows p q context named given program.holds f) e
-effect_sound laws limits state next pe p call what.Arrive modes sound program t e =
+effect_sound limits state next pe p call what.Arrive modes sound program t e =
     let turn = in_turn p call (call_made what.Arrive) t in
     member_sound state next pe p (arrive_step state.round p) sound program
     (λ q f. moved_on state.rows state.round p q program (arrive_keeps state.rows state.round p q program.holds f) (arrive_on_time state.round p q program.on_time turn.bound f)) e
-effect_sound laws limits state next pe p call what.Leave modes sound program t e =
+effect_sound limits state next pe p call what.Leave modes sound program t e =
     let turn = in_turn p call (call_made what.Leave) t in
     member_sound state next pe p (leave_step p) sound program
     (λ q f. moved_on state.rows state.round p q program (leave_keeps state.rows p q program.holds f) (leave_on_time state.round p q program.on_time turn.bound f)) e
-effect_sound laws limits state next pe p call what.Crash modes sound program t e =
+effect_sound limits state next pe p call what.Crash modes sound program t e =
     let less = next_bound p call (both_true (is_running p.standing) (is_next p call) t).1 in
     member_sound state next pe p (crash_step p) sound program
     (λ q f. moved_on state.rows state.round p q program (crash_keeps state.rows p q program.holds f) (crash_on_time state.round p q program.on_time less f)) e
-effect_sound laws limits state next pe p call (what.Lose piece) modes sound program t e =
+effect_sound limits state next pe p call (what.Lose piece) modes sound program t e =
     event_sound state next pe p (lose_step p call piece) sound program (λ q f. lose_next state.rows p q call piece program.holds f) e
-effect_sound laws limits state next pe p call (what.Refused asked error doubt) modes sound program t e =
+effect_sound limits state next pe p call (what.Refused asked error doubt) modes sound program t e =
     call_sound state next pe p (refused_step limits state.rows state.round p asked error doubt) sound program (in_turn p call (call_made (what.Refused asked error doubt)) t).bound
     (λ q f. subst (IsNext state.rows 1 p) (when_some _ _ q f).1 (counted_next state.rows p program.holds)) e
 
 -- a step leads from a sound state to a sound one
-pub sound_step : (laws : DirectoryLaws) (limits : Limits) (state next : State) (event : Event) → HasModes event.what → IsSound state → step limits state event ≡ Some next → IsSound next
-sound_step laws limits state next event modes sound e =
+pub sound_step : (limits : Limits) (state next : State) (event : Event) → HasModes event.what → IsSound state → step limits state event ≡ Some next → IsSound next
+sound_step limits state next event modes sound e =
     let p = bind_some (program_of state event.pe.0) _ next e in
     let turn = if_some (is_in_turn p.0 event.call event.what) (effect limits state event.pe.0 p.0 event.call event.what) next p.2 in
     let program = All-at (IsSoundProgram state.rows state.round) state.programs event.pe.0 p.0 sound.sound p.1 in
-    effect_sound laws limits state next event.pe.0 p.0 event.call event.what modes sound program turn.0 turn.1
+    effect_sound limits state next event.pe.0 p.0 event.call event.what modes sound program turn.0 turn.1
