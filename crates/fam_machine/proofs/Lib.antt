@@ -8,3 +8,4 @@ pub mod Told
 pub mod Rounds
 pub mod Bytes
 pub mod States
+pub mod Replies

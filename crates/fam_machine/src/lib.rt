@@ -2,4 +2,8 @@
 #![tactic(auto)]
 
 mod answers;
+mod error;
 mod memory;
+mod meta;
+
+pub use error::StepError;
