@@ -9,3 +9,4 @@ pub mod Rounds
 pub mod Bytes
 pub mod States
 pub mod Replies
+pub mod Opening

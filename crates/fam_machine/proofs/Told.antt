@@ -96,11 +96,11 @@ found_itself number (x ∷ xs) rise =
     (λ k d lt. found_itself_tail number x (get_or xs k d) xs (above k d lt) ∙ all k d lt)
 
 -- a row of lawful rows that is found by its own number
-record IsThere (rows : Rows) (item : ItemRow) : Type 0 where
-  found_there : item_of rows (item_number item) ≡ Some item
-  lawful : IsLawfulItem rows item
+pub record IsThere (rows : Rows) (item : ItemRow) : Type 0 where
+  pub found_there : item_of rows (item_number item) ≡ Some item
+  pub lawful : IsLawfulItem rows item
 
-all_there : (rows : Rows) → IsLawful rows → All (IsThere rows) rows.items
+pub all_there : (rows : Rows) → IsLawful rows → All (IsThere rows) rows.items
 all_there rows lawful k d lt =
     record {
       found_there = find_number-find item_number (item_number (get_or rows.items k d)) rows.items ∙ found_itself item_number rows.items lawful.item_numbers_rise k d lt;
@@ -111,7 +111,7 @@ region_small : (rows : Rows) (n : ℕ) (row : RegionRow) → IsLawful rows → r
 region_small rows n row lawful e = (All-found (IsLawfulRegion rows) region_number n rows.regions row lawful.regions e).size
 
 -- the descriptor of a row is known
-there_known : (rows : Rows) (item : ItemRow) → IsLawful rows → IsThere rows item → IsKnown rows (descriptor_of item)
+pub there_known : (rows : Rows) (item : ItemRow) → IsLawful rows → IsThere rows item → IsKnown rows (descriptor_of item)
 there_known rows item lawful there =
     let inside = there.lawful.inside in
     let small = region_small rows item.region.0 inside.0 lawful inside.1 in

@@ -8,10 +8,26 @@ use Rattle.fam_model.specs.declared.rows.Rows.{Rows}
 use Rattle.fam_model.specs.declared.state.ProgramState.{ProgramState}
 use Rattle.fam_model.specs.declared.state.State.{State}
 use Rattle.fam_model.specs.MetaStep.{may_reply, told_change}
+use Rattle.fam_program.specs.declared.tracked.TrackedProgram.{TrackedProgram}
+use Rattle.fam_machine.specs.Views.{state_of}
+use Rattle.fam_machine.specs.declared.parts.Parts.{Parts}
 use Rattle.fam_machine.specs.declared.error.StepError.{StepError}
 use Rattle.fam_machine.specs.declared.error.StepError.TheVariants as error
 use Rattle.fam_machine.specs.declared.meta.Told.{Told}
 use Rattle.fam_machine.specs.declared.meta.Told.TheVariants as told
+
+-- A program took this step; or there is none, and the rule of such events is told; or memory was wanting. In the last
+-- two cases it is as it was.
+abbrev pub Steps : Option ProgramState → ℕ → TrackedProgram → TrackedProgram → Result Unit StepError → Type 0
+Steps step rule old new (Ok _) = step ≡ Some new.state
+Steps step rule old new (Err (error.Illegal broken)) = (step ≡ None) × (broken ≡ rule) × (new ≡ old)
+Steps step rule old new (Err error.Memory) = new ≡ old
+
+-- The same of the machine, at an event of program pe.
+abbrev pub Takes : Option State → ℕ → Parts → Parts → Result Unit StepError → Type 0
+Takes step rule old new (Ok _) = step ≡ Some (state_of new)
+Takes step rule old new (Err (error.Illegal broken)) = (step ≡ None) × (broken ≡ rule) × (new ≡ old)
+Takes step rule old new (Err error.Memory) = new ≡ old
 
 -- what a reply tells of a request
 abbrev pub Tells : Rows → Who → Request → Reply → Told → Type 0

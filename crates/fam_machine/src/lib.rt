@@ -5,5 +5,7 @@ mod answers;
 mod error;
 mod memory;
 mod meta;
+mod parts;
+mod refused;
 
 pub use error::StepError;

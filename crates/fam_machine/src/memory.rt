@@ -9,6 +9,7 @@ ghost use Rattle.fam_model.specs.Atomic.{bytes_after};
 ghost use Rattle.fam_machine.specs.Sound.{is_sound_kind, IsMemoryOf, IsSoundAtomic, zero_bytes};
 ghost use Rattle.fam_model.specs.Directory as directory;
 ghost use Rattle.fam_model.specs.Lawful.{is_lawful_change};
+ghost use Rattle.fam_model.specs.Opened as opening;
 ghost use Rattle.fam_model.specs.Rows.{IsLawful, item_of};
 
 use fam_base::{Bytes, ItemId, NoMemory, Sequence};
@@ -140,6 +141,17 @@ fn zeros(alloc: Global, size: u64) -> Result<Bytes, NoMemory>
     ensures { IfOk result (λ bytes. bytes ≡ replicate size 0) }
 {
     Ok(Sequence::from_vec(vec![in alloc; 0u8; size as usize]?))
+}
+
+/// Zero bytes for each item.
+pub fn zero_memory(alloc: Global, rows: &Rows) -> Result<Memory, NoMemory>
+    ensures { IfOk result (λ memory. memory ≡ opening.zero_memory rows.now.items) }
+{
+    let mut memory = Sequence::new(alloc);
+    for row in rows.items.as_slice() {
+        memory.push((row.number, zeros(alloc, row.size)?))?;
+    }
+    Ok(memory)
 }
 
 /// Makes a lawful change of the directory and of memory. Where memory is wanting both stay as they are.
