@@ -8,6 +8,6 @@ mod plan;
 #[cfg(test)]
 mod tests;
 
-pub use laws::places_differ;
+pub use laws::{pieces_lie_in_rows, places_differ};
 pub use layout::{Layout, Ranges};
 pub use plan::Plan;

@@ -5,5 +5,7 @@ mod copy;
 mod element;
 mod planning;
 mod refusal;
+#[cfg(test)]
+mod tests;
 
 pub use planning::plan;
