@@ -11,6 +11,8 @@ mod limits;
 mod refusing;
 mod room;
 mod search;
+#[cfg(test)]
+mod tests;
 
 pub use applying::apply;
 pub use changing::{answer, change_at, first_base, may_lie};
