@@ -1,2 +1,5 @@
+pub mod Options
 pub mod Contexts
 pub mod Within
+pub mod Opening
+pub mod Parts

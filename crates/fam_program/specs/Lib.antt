@@ -1,5 +1,6 @@
 pub mod Held
 pub mod Budget
+pub mod Parts
 pub mod Slots
 pub mod Steps
 pub mod View

@@ -2,6 +2,7 @@
 #![tactic(auto)]
 
 mod budget;
+mod places;
 mod program;
 mod shaped;
 mod slots;

@@ -4,6 +4,7 @@ ghost use Rattle.std.specs.Prelude.{◌≡◌, ◌<◌, IfOk};
 
 mod contexts;
 mod ends;
+mod pieces;
 mod requests;
 
 use crate::budget::moved;

@@ -5,9 +5,22 @@ ghost use Rattle.fam_model.specs.ContextStep as steps;
 ghost use Rattle.fam_model.specs.EndStep as ends;
 ghost use Rattle.fam_model.specs.Limits.{number_end};
 ghost use Rattle.fam_model.specs.Programs as programs;
-ghost use Rattle.fam_model.specs.Rules.{is_due};
+ghost use Rattle.fam_model.specs.Operations.{is_pending};
+ghost use Rattle.std.specs.List.{list_any};
 
 use super::Program;
+use crate::places::place_with;
+use fam_base::Sequence;
+use fam_context::Context;
+
+fn some_pending(contexts: &Sequence<Context>) -> bool
+    ensures { result ≡ list_any (λ t. is_pending t.context) contexts.now }
+{
+    contexts
+        .as_slice()
+        .iter()
+        .any(|context| context.is_pending())
+}
 
 impl Program {
     /// Whether the context is there and open.
@@ -22,25 +35,17 @@ impl Program {
     }
 
     /// The context that has the operation of a call.
-    #[tactic(auto, using(crate::proofs::Contexts::place_of_context))]
     pub fn context_of(&self, call: u64) -> Option<usize>
         ensures { result ≡ programs.context_of self.now.state call }
     {
-        self.contexts
-            .as_slice()
-            .iter()
-            .position(|context| context.has(call))
+        place_with(&self.contexts, call)
     }
 
     /// Whether some piece is left, in whichever context.
-    #[tactic(auto, using(crate::proofs::Contexts::any_of_contexts))]
     pub fn has_pending(&self) -> bool
         ensures { result ≡ ends.has_pending self.now.state }
     {
-        self.contexts
-            .as_slice()
-            .iter()
-            .any(|context| context.is_pending())
+        some_pending(&self.contexts)
     }
 
     /// Opens a context that is not open: it is then as a new one.
