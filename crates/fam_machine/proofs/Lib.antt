@@ -10,3 +10,4 @@ pub mod Bytes
 pub mod States
 pub mod Replies
 pub mod Opening
+pub mod Members

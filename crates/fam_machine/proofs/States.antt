@@ -41,13 +41,14 @@ use Rattle.fam_rows.specs.Laws.{asked_mode}
 use Rattle.fam_rows.proofs.Keeping.{keeps_law}
 use Rattle.fam_rows.proofs.Served.{told_lawful}
 use Rattle.fam_machine.specs.Sound.{HoldsSound, IsOnTime, IsSoundProgram, IsSound, IsMemoryOf, call_mode, HasModes}
+use Rattle.fam_machine.specs.Views.{rows_with}
 use Rattle.fam_machine.proofs.Bytes.{memory_by_piece_extents}
 use Rattle.fam_machine.proofs.Changes.{KeepsItems, keeps_items, memory_follows, mapped_some}
 use Rattle.fam_machine.proofs.Issued.{issue_next}
 use Rattle.fam_machine.proofs.Lists.{bind_some, when_some, both_true, All-at}
 use Rattle.fam_machine.proofs.Programs.{IsNext, counted_next, open_next, fence_next, quiet_next, close_next, wait_next, answer_next, piece_next, lose_next}
 use Rattle.fam_machine.proofs.Rounds.{next_bound, program_next, AreOnTime, on_time_after, arrive_on_time, leave_on_time, crash_on_time, Keeps, arrive_keeps, leave_keeps, crash_keeps}
-use Rattle.fam_machine.proofs.Told.{rows_after, meta_next, step_change, holds_kept}
+use Rattle.fam_machine.proofs.Told.{meta_next, step_change, holds_kept}
 
 -- the mode of a call is that of its request
 mode_made : (p : ProgramState) (asked : MetaCall) (made : Request) → request_of p asked ≡ Some made → asked_mode made ≡ call_mode asked
@@ -146,9 +147,9 @@ member_sound state next pe p o sound program step e =
 
 -- a state in which a change is served
 record IsServed (state : State) (chosen : Option Change) : Type 0 where
-  lawful : IsLawful (rows_after state.rows chosen)
-  keeps : KeepsItems state.rows (rows_after state.rows chosen)
-  filled : IsMemoryOf (rows_after state.rows chosen).items (changed state chosen).memory
+  lawful : IsLawful (rows_with state.rows chosen)
+  keeps : KeepsItems state.rows (rows_with state.rows chosen)
+  filled : IsMemoryOf (rows_with state.rows chosen).items (changed state chosen).memory
 
 served : (state : State) (chosen : Option Change) → IsSound state → ((change : Change) → chosen ≡ Some change → IsTrue (is_lawful_change state.rows change)) → IsServed state chosen
 served state None sound lawful =
@@ -160,7 +161,7 @@ served state (Some change) sound lawful =
       filled = memory_follows state.rows change state.memory sound.lawful sound.filled;
     }
 
-changed_sound : (state : State) (pe : ℕ) (p q : ProgramState) (chosen : Option Change) → IsSound state → IsSoundProgram state.rows state.round p → p.next_call < number_end → IsServed state chosen → IsNext (rows_after state.rows chosen) 1 p q → IsSound (with_program (changed state chosen) pe q)
+changed_sound : (state : State) (pe : ℕ) (p q : ProgramState) (chosen : Option Change) → IsSound state → IsSoundProgram state.rows state.round p → p.next_call < number_end → IsServed state chosen → IsNext (rows_with state.rows chosen) 1 p q → IsSound (with_program (changed state chosen) pe q)
 changed_sound state pe p q None sound program less is_served is_next =
     with_program_sound state pe q sound (called state.rows state.round p q program less is_next)
 changed_sound state pe p q (Some change) sound program less is_served is_next =

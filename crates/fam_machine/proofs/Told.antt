@@ -34,6 +34,7 @@ use Rattle.fam_model.specs.Programs.{request_of, filled, fill_item, fill_region,
 use Rattle.fam_model.specs.Rows.{IsLawful, IsLawfulRegion, IsLawfulItem, item_of, item_number, region_of, region_number, region_named, item_named, items_in, descriptor_of, room, room_end, fits}
 use Rattle.fam_model.specs.Same.{same_reply}
 use Rattle.fam_machine.specs.Sound.{IsKnown, IsSoundPiece, IsSoundOperation, IsSoundContext, IsSoundSlot, HoldsSound}
+use Rattle.fam_machine.specs.Views.{rows_with}
 use Rattle.fam_machine.proofs.Changes.{KeepsItems}
 use Rattle.fam_machine.proofs.Lists.{bind_some, when_some, both_true, All-at, All-found, find_number-find, found_holds, found_passes, rise_behind, above_first}
 use Rattle.fam_machine.proofs.Programs.{IsNext, counted_next}
@@ -122,11 +123,6 @@ there_known rows item lawful there =
       size = λ row e. ap (λ (x : ItemRow). x.size) (same_Some row item (sym e ∙ there.found_there));
     }
 
--- rows after a change, if there is one
-abbrev pub rows_after : Rows → Option Change → Rows
-rows_after rows None = rows
-rows_after rows (Some chosen) = after rows chosen
-
 -- looking up an item
 
 no_error : (d : Descriptor) (error : FamError) → same_reply (reply.Item d) (reply.Error error) ≡ true → ⊥
@@ -198,14 +194,14 @@ new_known rows who name size mode region base lawful lies =
       size = λ row e. ap (λ (x : ItemRow). x.size) (same_Some row _ (sym e ∙ new_found rows.items _ (All-weaker (IsLawfulItem rows) (λ x. item_number x < rows.next_item) (λ x s. s.number) rows.items lawful.items)));
     }
 
-allocated_with : (rows : Rows) (who : Who) (name : List ℕ) (size mode : ℕ) (region : RegionId) (base : ℕ) (d : Descriptor) (none lies : Bool) → IsLawful rows → may_lie rows (request.Allocate name size mode region) base ≡ lies → (same : Bool) → same_reply (reply.Item d) (answer (allocation rows who name size mode region base)) ≡ same → is_some (when (none && lies && same) (allocation rows who name size mode region base)) ≡ true → IsKnown (rows_after rows (when (none && lies && same) (allocation rows who name size mode region base))) d
+allocated_with : (rows : Rows) (who : Who) (name : List ℕ) (size mode : ℕ) (region : RegionId) (base : ℕ) (d : Descriptor) (none lies : Bool) → IsLawful rows → may_lie rows (request.Allocate name size mode region) base ≡ lies → (same : Bool) → same_reply (reply.Item d) (answer (allocation rows who name size mode region base)) ≡ same → is_some (when (none && lies && same) (allocation rows who name size mode region base)) ≡ true → IsKnown (rows_with rows (when (none && lies && same) (allocation rows who name size mode region base))) d
 allocated_with rows who name size mode region base d true true lawful l true s e =
     subst (IsKnown (after rows (allocation rows who name size mode region base))) (same_item d _ s) (new_known rows who name size mode region base lawful l)
 allocated_with rows who name size mode region base d true true lawful l false s e = absurd (false≢true e)
 allocated_with rows who name size mode region base d true false lawful l same s e = absurd (false≢true e)
 allocated_with rows who name size mode region base d false lies lawful l same s e = absurd (false≢true e)
 
-allocate_known : (rows : Rows) (who : Who) (name : List ℕ) (size mode : ℕ) (region : RegionId) (d : Descriptor) → IsLawful rows → (o : Option FamError) → option_map_or (same_reply (reply.Item d)) (unchanging_reply o rows (request.Allocate name size mode region)) (is_some (told_change rows who (request.Allocate name size mode region) (reply.Item d))) ≡ true → IsKnown (rows_after rows (told_change rows who (request.Allocate name size mode region) (reply.Item d))) d
+allocate_known : (rows : Rows) (who : Who) (name : List ℕ) (size mode : ℕ) (region : RegionId) (d : Descriptor) → IsLawful rows → (o : Option FamError) → option_map_or (same_reply (reply.Item d)) (unchanging_reply o rows (request.Allocate name size mode region)) (is_some (told_change rows who (request.Allocate name size mode region) (reply.Item d))) ≡ true → IsKnown (rows_with rows (told_change rows who (request.Allocate name size mode region) (reply.Item d))) d
 allocate_known rows who name size mode region d lawful (Some error) e = absurd (no_error d error e)
 allocate_known rows who name size mode region d lawful None e =
     allocated_with rows who name size mode region d.base d (is_none (refusal rows who (request.Allocate name size mode region)))
@@ -240,24 +236,24 @@ item_next rows p slot (reply.Item d) holds known =
 item_next rows p slot given holds known = counted_next rows p holds
 
 -- what is told of an item that is allocated or looked up
-told_known : (rows : Rows) (who : Who) (asked : Request) (given : Reply) → IsLawful rows → may_reply rows who asked given ≡ true → (d : Descriptor) → given ≡ reply.Item d → ((name : List ℕ) (size mode : ℕ) (region : RegionId) → asked ≡ request.Allocate name size mode region → IsKnown (rows_after rows (told_change rows who asked given)) d) × ((name region : List ℕ) → asked ≡ request.Lookup name region → IsKnown (rows_after rows (told_change rows who asked given)) d)
+told_known : (rows : Rows) (who : Who) (asked : Request) (given : Reply) → IsLawful rows → may_reply rows who asked given ≡ true → (d : Descriptor) → given ≡ reply.Item d → ((name : List ℕ) (size mode : ℕ) (region : RegionId) → asked ≡ request.Allocate name size mode region → IsKnown (rows_with rows (told_change rows who asked given)) d) × ((name region : List ℕ) → asked ≡ request.Lookup name region → IsKnown (rows_with rows (told_change rows who asked given)) d)
 told_known rows who asked given lawful may d e =
     ((λ name size mode region f.
       let now : may_reply rows who (request.Allocate name size mode region) (reply.Item d) ≡ true =
       subst (λ g. may_reply rows who (request.Allocate name size mode region) g ≡ true) e (subst (λ a. may_reply rows who a given ≡ true) f may)
       in
-      subst (λ a. IsKnown (rows_after rows (told_change rows who a given)) d) (sym f)
-      (subst (λ g. IsKnown (rows_after rows (told_change rows who (request.Allocate name size mode region) g)) d) (sym e)
+      subst (λ a. IsKnown (rows_with rows (told_change rows who a given)) d) (sym f)
+      (subst (λ g. IsKnown (rows_with rows (told_change rows who (request.Allocate name size mode region) g)) d) (sym e)
       (allocate_known rows who name size mode region d lawful (refusal rows who (request.Allocate name size mode region)) now))),
      (λ name region f.
       let now : may_reply rows who (request.Lookup name region) (reply.Item d) ≡ true =
       subst (λ g. may_reply rows who (request.Lookup name region) g ≡ true) e (subst (λ a. may_reply rows who a given ≡ true) f may)
       in
-      subst (λ a. IsKnown (rows_after rows (told_change rows who a given)) d) (sym f)
+      subst (λ a. IsKnown (rows_with rows (told_change rows who a given)) d) (sym f)
       (lookup_known rows name region d lawful (refusal rows who (request.Lookup name region)) now)))
 
 -- the program after a call on the directory, by the request that it makes
-asked_next : (rows now : Rows) (p : ProgramState) (asked : MetaCall) (made : Request) (given : Reply) → IsLawful rows → HoldsSound now p → request_of p asked ≡ Some made → may_reply rows p.who made given ≡ true → rows_after rows (told_change rows p.who made given) ≡ now → IsNext now 1 p (filled (counted p) asked given)
+asked_next : (rows now : Rows) (p : ProgramState) (asked : MetaCall) (made : Request) (given : Reply) → IsLawful rows → HoldsSound now p → request_of p asked ≡ Some made → may_reply rows p.who made given ≡ true → rows_with rows (told_change rows p.who made given) ≡ now → IsNext now 1 p (filled (counted p) asked given)
 asked_next rows now p (meta.CreateRegion slot name size mode) made given lawful holds e may same = region_next now p slot given holds
 asked_next rows now p (meta.LookupRegion slot name) made given lawful holds e may same = region_next now p slot given holds
 asked_next rows now p (meta.Allocate slot name size mode from) made given lawful holds e may same =
@@ -275,11 +271,11 @@ step_change rows p q asked given e =
     let made = bind_some (request_of p asked) _ q e in
     (made.0, made.1, ap (λ o. o >>= λ request. told_change rows p.who request given) made.1)
 
-pub meta_next : (rows : Rows) (p q : ProgramState) (asked : MetaCall) (given : Reply) → IsLawful rows → KeepsItems rows (rows_after rows (served_change rows p asked given)) → HoldsSound rows p → meta_step rows p asked given ≡ Some q → IsNext (rows_after rows (served_change rows p asked given)) 1 p q
+pub meta_next : (rows : Rows) (p q : ProgramState) (asked : MetaCall) (given : Reply) → IsLawful rows → KeepsItems rows (rows_with rows (served_change rows p asked given)) → HoldsSound rows p → meta_step rows p asked given ≡ Some q → IsNext (rows_with rows (served_change rows p asked given)) 1 p q
 meta_next rows p q asked given lawful keeps holds e =
     let made = bind_some (request_of p asked) _ q e in
-    let now = rows_after rows (served_change rows p asked given) in
+    let now = rows_with rows (served_change rows p asked given) in
     let served : served_change rows p asked given ≡ told_change rows p.who made.0 given = ap (λ o. o >>= λ request. told_change rows p.who request given) made.1 in
     let may = when_some (may_reply rows p.who made.0 given) (filled (counted p) asked given) q made.2 in
     subst (IsNext now 1 p) may.1
-    (asked_next rows now p asked made.0 given lawful (holds_kept rows now p keeps holds) made.1 may.0 (ap (rows_after rows) (sym served)))
+    (asked_next rows now p asked made.0 given lawful (holds_kept rows now p keeps holds) made.1 may.0 (ap (rows_with rows) (sym served)))

@@ -9,7 +9,8 @@ use Rattle.fam_model.specs.declared.state.ProgramState.{ProgramState}
 use Rattle.fam_model.specs.declared.state.State.{State}
 use Rattle.fam_model.specs.MetaStep.{may_reply, told_change}
 use Rattle.fam_program.specs.declared.tracked.TrackedProgram.{TrackedProgram}
-use Rattle.fam_machine.specs.Views.{state_of}
+use Rattle.fam_model.specs.Directory.{Memory}
+use Rattle.fam_machine.specs.Views.{state_of, rows_with, memory_with}
 use Rattle.fam_machine.specs.declared.parts.Parts.{Parts}
 use Rattle.fam_machine.specs.declared.error.StepError.{StepError}
 use Rattle.fam_machine.specs.declared.error.StepError.TheVariants as error
@@ -40,3 +41,13 @@ Tells rows who request given (told.Serves chosen) =
 abbrev pub told_if : Bool → Told
 told_if true = told.Right
 told_if false = told.Wrong
+
+-- what the answer of the directory to a request makes of rows and memory; where it is wrong, rule 2 is broken
+abbrev pub Answers : Rows → Memory → Who → Request → Reply → Rows → Memory → Result Unit StepError → Type 0
+Answers rows memory who request given rows_now memory_now (Ok _) =
+    (may_reply rows who request given ≡ true)
+    × (rows_now ≡ rows_with rows (told_change rows who request given))
+    × (memory_now ≡ memory_with rows (told_change rows who request given) memory)
+Answers rows memory who request given rows_now memory_now (Err (error.Illegal broken)) =
+    (may_reply rows who request given ≡ false) × (broken ≡ 2) × (rows_now ≡ rows) × (memory_now ≡ memory)
+Answers rows memory who request given rows_now memory_now (Err error.Memory) = (rows_now ≡ rows) × (memory_now ≡ memory)

@@ -2,6 +2,8 @@
 #![tactic(auto)]
 
 mod answers;
+mod contexts;
+mod ends;
 mod error;
 mod memory;
 mod meta;

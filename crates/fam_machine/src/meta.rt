@@ -1,12 +1,19 @@
 //! Calls on the directory.
 
-ghost use Rattle.std.specs.Prelude.{◌≡◌, ◌≤◌, IfOk, None};
+ghost use Rattle.std.specs.Prelude.{◌≡◌, ◌<◌, ◌≤◌, length, IfOk, IsTrue, None};
+ghost use Rattle.fam_model.specs.Limits.{nobody};
+ghost use Rattle.fam_model.specs.declared.event.What.TheVariants as what;
+ghost use Rattle.fam_rows.specs.Laws.{asked_mode};
+ghost use Rattle.fam_machine.specs.Views.{state_of, turn_at, effect_at};
 ghost use Rattle.fam_model.specs.Directory.{refusal};
 ghost use Rattle.fam_model.specs.MetaStep as steps;
 ghost use Rattle.fam_model.specs.Rows.{IsLawful};
-ghost use Rattle.fam_machine.specs.Sound.{call_mode};
-ghost use Rattle.fam_machine.specs.Effects.{Tells, told_if};
+ghost use Rattle.fam_machine.specs.Sound.{call_mode, IsMemoryOf, IsSound};
+ghost use Rattle.fam_machine.specs.Effects.{Tells, told_if, Answers, Takes};
 
+use crate::error::StepError;
+use crate::memory::{self, Memory};
+use crate::parts::Parts;
 use fam_base::{NoMemory, Who};
 use fam_model::{Change, MetaCall, Reply, Request, Rows};
 use std::alloc::Global;
@@ -97,4 +104,54 @@ pub fn tell(
         Some(chosen) => Ok(Told::Serves(chosen)),
         None => Ok(Told::Wrong),
     }
+}
+
+/// Makes the change that a reply tells, if it is right.
+fn answer(
+    alloc: Global,
+    rows: &mut Rows,
+    memory: &mut Memory,
+    who: Who,
+    request: &Request,
+    given: &Reply,
+) -> Result<(), StepError>
+    requires lawful { IsLawful rows.old }
+    requires filled { IsMemoryOf rows.old.items memory.old }
+    requires user { who.uid < nobody }
+    requires mode { asked_mode request.now ≤ 511 }
+    ensures { Answers rows.old memory.old who request.now given.now rows.new memory.new result }
+{
+    match tell(alloc, rows, who, request, given)? {
+        Told::Wrong => Err(StepError::Illegal(2)),
+        Told::Right => Ok(()),
+        Told::Serves(chosen) => {
+            memory::change(alloc, rows, memory, chosen)?;
+            Ok(())
+        }
+    }
+}
+
+/// A call on the directory.
+pub fn meta(
+    alloc: Global,
+    parts: &mut Parts,
+    pe: usize,
+    call: u64,
+    asked: &MetaCall,
+    given: &Reply,
+) -> Result<(), StepError>
+    requires there { pe < length parts.old.programs }
+    requires sound { IsSound (state_of parts.old) }
+    requires turn { IsTrue (turn_at (state_of parts.old) pe call (what.Meta asked.now given.now)) }
+    ensures { Takes (effect_at (state_of parts.old) pe call (what.Meta asked.now given.now)) 2 parts.old parts.new result }
+{
+    prove!(mode_bits(asked) <= 511);
+    let program = parts.programs.at(pe);
+    let who = program.who();
+    let Some(request) = program.request_of(alloc, asked)? else {
+        return Err(StepError::Illegal(2));
+    };
+    answer(alloc, &mut parts.rows, &mut parts.memory, who, &request, given)?;
+    parts.programs.at_mut(pe).fill(asked, given);
+    Ok(())
 }
