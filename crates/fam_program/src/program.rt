@@ -10,7 +10,7 @@ mod requests;
 use crate::budget::moved;
 use crate::shaped::makes_shaped;
 use crate::slots;
-use crate::started::{answers_started, has_crashed, is_at, is_before, is_idle, is_running};
+use crate::started::{answers_started, is_at, is_before, is_idle, is_running};
 use fam_base::{Descriptor, NoMemory, RegionId, Sequence, Who};
 use fam_context::Context;
 use fam_model::{DataOp, MetaCall, Reply, Standing, Started, What};
