@@ -23,7 +23,7 @@ issued_on : (n m : ℕ) (before after : Started) → n ≤ m → ((call : ℕ) �
 issued_on n m before after up on operation h =
     record { below = omega (arith, h.below); copies = h.copies; begins = λ e. h.begins (on operation.call h.below e) }
 
-within_on : (n m : ℕ) (before after : Started) → n ≤ m → ((call : ℕ) → call < n → after ≡ started.Operation call → before ≡ started.Operation call) → (context : Context) → IsWithin n before context → IsWithin m after context
+pub within_on : (n m : ℕ) (before after : Started) → n ≤ m → ((call : ℕ) → call < n → after ≡ started.Operation call → before ≡ started.Operation call) → (context : Context) → IsWithin n before context → IsWithin m after context
 within_on n m before after up on context h =
     record {
       epoch = omega (arith, h.epoch);

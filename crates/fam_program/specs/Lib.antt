@@ -4,3 +4,4 @@ pub mod Parts
 pub mod Slots
 pub mod Steps
 pub mod View
+pub mod Reports

@@ -4,7 +4,9 @@ ghost use Rattle.std.specs.Prelude.{◌≡◌, ◌<◌, IfOk};
 
 mod contexts;
 mod ends;
+mod issue;
 mod pieces;
+mod reports;
 mod requests;
 
 use crate::budget::moved;
