@@ -13,20 +13,21 @@ fn layout(rt: &impl Abort) -> Layout {
     Layout::new(Service::of(2, 2, 64).expect(rt, "a lawful service"))
 }
 
-/// An item of region 1, of 1000 bytes, so many bytes behind the region's begin.
-fn item(base: u64) -> Descriptor {
-    Descriptor {
+/// A plan on an item of region 1, of 1000 bytes, so many bytes behind the region's begin.
+fn planned(rt: &impl Abort, alloc: Global, op: &DataOp, base: u64) -> Result<Plan, FamError> {
+    assert!(rt; base < 1_000_000);
+    let item = Descriptor {
         item: ItemId(5),
         region: RegionId(1),
         base,
         size: 1000,
+    };
+    match op {
+        DataOp::Get { .. } | DataOp::Put { .. } | DataOp::Atomic { .. } => {
+            plan(alloc, &layout(rt), op, item, item)
+        }
+        _ => Err(FamError::Absent),
     }
-}
-
-/// A plan on an item at this base.
-fn planned(rt: &impl Abort, alloc: Global, op: &DataOp, base: u64) -> Result<Plan, FamError> {
-    assert!(rt; base < 1_000_000);
-    plan(alloc, &layout(rt), op, item(base), item(0))
 }
 
 fn get(offset: u64, count: u64) -> DataOp {

@@ -1,9 +1,11 @@
 -- Operations on several elements, and copies.
-use Rattle.std.specs.Prelude.{ℕ, ◌+◌, nat_lt, List, [], ◌∷◌, Option}
+use Rattle.std.specs.Prelude.{ℕ, ◌+◌, Bool, true, false, nat_lt, List, [], ◌∷◌, Option}
 use Rattle.std.specs.List.{flat_map}
 use Rattle.fam_base.specs.declared.naming.Descriptor.{Descriptor}
 use Rattle.fam_base.specs.declared.error.FamError.{FamError}
 use Rattle.fam_base.specs.declared.error.FamError.TheVariants.{TooLarge, Range}
+use Rattle.fam_model.specs.declared.call.DataOp.{DataOp}
+use Rattle.fam_model.specs.declared.call.DataOp.TheVariants as data_op
 use Rattle.fam_model.specs.declared.piece.Part.{Part}
 use Rattle.fam_model.specs.declared.piece.PlanPiece.{PlanPiece}
 use Rattle.fam_model.specs.declared.service.Service.{Service}
@@ -16,6 +18,14 @@ use Rattle.fam_vector.specs.declared.element.Strided.{Strided}
 -- the parts of an item that are these elements
 abbrev pub strided_parts : Strided → List Part
 strided_parts elements = strided elements.first elements.stride elements.size elements.count
+
+-- a gather or a scatter
+abbrev pub is_spread : DataOp → Bool
+is_spread (data_op.Gather item first stride size count) = true
+is_spread (data_op.Scatter item first stride size count bytes) = true
+is_spread (data_op.GatherIndex item size places) = true
+is_spread (data_op.ScatterIndex item size places bytes) = true
+is_spread _ = false
 
 -- why so many elements of so many bytes are refused: first their bytes and number, then their ends
 abbrev pub elements_refusal : ℕ → ℕ → ℕ → List Part → Option FamError

@@ -1,79 +1,61 @@
 //! The plan of an operation.
 
-ghost use Rattle.std.specs.Prelude.{◌≡◌, ◌+◌, ◌≤◌, ◌^◌, false, IfOk, None};
+ghost use Rattle.std.specs.Prelude.{◌≡◌, ◌+◌, ◌≤◌, ◌^◌, false, IsTrue, IfOk, None};
 ghost use Rattle.fam_layout.specs.Plans.{IsPlanned, plan_refusal};
-ghost use Rattle.fam_model.specs.Issue as issue;
+ghost use Rattle.fam_model.specs.Issue.{ends_past};
 ghost use Rattle.fam_model.specs.Pieces as cutting;
 ghost use Rattle.fam_plan.specs.Single.{is_single};
-ghost use Rattle.fam_vector.specs.Vector.{strided_parts};
+ghost use Rattle.fam_vector.specs.Vector.{is_spread};
 
 use crate::copy::{Side, copy_pieces};
 use crate::element::{Strided, indexed_cuts, strided_cuts};
 use crate::refusal::refusal;
-use fam_base::{Bytes, Descriptor, FamError, NoMemory, Places, Sequence};
-use fam_layout::{Layout, Plan};
+use fam_base::{Descriptor, FamError, NoMemory, Sequence};
+use fam_layout::{Layout, Plan, Ranges};
 use fam_model::{DataOp, PlanPiece};
 use fam_plan::{kind_of, reads, with_pieces, writes};
 use std::alloc::Global;
 
-fn gather(
+/// The elements of a gather or a scatter that is not refused, each cut where units begin.
+fn cuts_of(
     alloc: Global,
     layout: &Layout,
+    op: &DataOp,
     from: Descriptor,
-    elements: Strided,
-) -> Result<Sequence<PlanPiece>, NoMemory>
-    requires within { issue.ends_past from.size (strided_parts elements) ≡ false }
+) -> Result<Ranges, NoMemory>
+    requires spread { IsTrue (is_spread op.now) }
+    requires within { ends_past from.size (cutting.elements op.now) ≡ false }
     requires small { from.base + from.size ≤ 2 ^ 26 }
-    ensures { IfOk result (λ pieces. pieces ≡ cutting.reads layout.now from (strided_parts elements)) }
+    ensures { IfOk result (λ ranges. ranges ≡ cutting.all_cuts layout.now.unit from.base (cutting.elements op.now)) }
 {
-    let parts = strided_cuts(alloc, layout, from, elements)?;
-    reads(alloc, layout, from, &parts)
-}
-
-fn scatter(
-    alloc: Global,
-    layout: &Layout,
-    from: Descriptor,
-    elements: Strided,
-    bytes: &Bytes,
-) -> Result<Sequence<PlanPiece>, NoMemory>
-    requires within { issue.ends_past from.size (strided_parts elements) ≡ false }
-    requires small { from.base + from.size ≤ 2 ^ 26 }
-    ensures { IfOk result (λ pieces. pieces ≡ cutting.writes layout.now from (strided_parts elements) bytes.now) }
-{
-    let parts = strided_cuts(alloc, layout, from, elements)?;
-    writes(alloc, layout, from, &parts, bytes.as_slice())
-}
-
-fn gather_index(
-    alloc: Global,
-    layout: &Layout,
-    from: Descriptor,
-    size: u64,
-    places: &Places,
-) -> Result<Sequence<PlanPiece>, NoMemory>
-    requires within { issue.ends_past from.size (cutting.indexed size places.now) ≡ false }
-    requires small { from.base + from.size ≤ 2 ^ 26 }
-    ensures { IfOk result (λ pieces. pieces ≡ cutting.reads layout.now from (cutting.indexed size places.now)) }
-{
-    let parts = indexed_cuts(alloc, layout, from, size, places.as_slice())?;
-    reads(alloc, layout, from, &parts)
-}
-
-fn scatter_index(
-    alloc: Global,
-    layout: &Layout,
-    from: Descriptor,
-    size: u64,
-    places: &Places,
-    bytes: &Bytes,
-) -> Result<Sequence<PlanPiece>, NoMemory>
-    requires within { issue.ends_past from.size (cutting.indexed size places.now) ≡ false }
-    requires small { from.base + from.size ≤ 2 ^ 26 }
-    ensures { IfOk result (λ pieces. pieces ≡ cutting.writes layout.now from (cutting.indexed size places.now) bytes.now) }
-{
-    let parts = indexed_cuts(alloc, layout, from, size, places.as_slice())?;
-    writes(alloc, layout, from, &parts, bytes.as_slice())
+    match op {
+        DataOp::Gather {
+            first,
+            stride,
+            size,
+            count,
+            ..
+        }
+        | DataOp::Scatter {
+            first,
+            stride,
+            size,
+            count,
+            ..
+        } => {
+            let elements = Strided {
+                first: *first,
+                stride: *stride,
+                size: *size,
+                count: *count,
+            };
+            strided_cuts(alloc, layout, from, elements)
+        }
+        DataOp::GatherIndex { size, places, .. } | DataOp::ScatterIndex { size, places, .. } => {
+            indexed_cuts(alloc, layout, from, *size, places.as_slice())
+        }
+        _ => unreachable!(),
+    }
 }
 
 /// The pieces of an operation that is not refused.
@@ -91,46 +73,14 @@ fn pieces(
     ensures { IfOk result (λ pieces. pieces ≡ cutting.pieces layout.now op.now from to) }
 {
     match op {
-        DataOp::Gather {
-            first,
-            stride,
-            size,
-            count,
-            ..
-        } => {
-            let elements = Strided {
-                first: *first,
-                stride: *stride,
-                size: *size,
-                count: *count,
-            };
-            gather(alloc, layout, from, elements)
+        DataOp::Gather { .. } | DataOp::GatherIndex { .. } => {
+            let parts = cuts_of(alloc, layout, op, from)?;
+            reads(alloc, layout, from, &parts)
         }
-        DataOp::Scatter {
-            first,
-            stride,
-            size,
-            count,
-            bytes,
-            ..
-        } => {
-            let elements = Strided {
-                first: *first,
-                stride: *stride,
-                size: *size,
-                count: *count,
-            };
-            scatter(alloc, layout, from, elements, bytes)
+        DataOp::Scatter { bytes, .. } | DataOp::ScatterIndex { bytes, .. } => {
+            let parts = cuts_of(alloc, layout, op, from)?;
+            writes(alloc, layout, from, &parts, bytes.as_slice())
         }
-        DataOp::GatherIndex { size, places, .. } => gather_index(
-            alloc, layout, from, *size, places,
-        ),
-        DataOp::ScatterIndex {
-            size,
-            places,
-            bytes,
-            ..
-        } => scatter_index(alloc, layout, from, *size, places, bytes),
         DataOp::Copy {
             from_offset,
             to_offset,

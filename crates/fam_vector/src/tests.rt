@@ -33,9 +33,8 @@ fn planned(
     to: Descriptor,
 ) -> Result<Plan, FamError> {
     let layout = Layout::new(Service::of(2, 2, 64).expect(rt, "a lawful service"));
-    for item in [from, to] {
-        assert!(rt; item.base <= 1000 && item.size <= 1_048_576);
-    }
+    assert!(rt; from.base <= 1000 && from.size <= 1_048_576);
+    assert!(rt; to.base <= 1000 && to.size <= 1_048_576);
     plan(alloc, &layout, op, from, to)
 }
 
