@@ -1,2 +1,4 @@
 pub mod Telling
 pub mod Places
+pub mod Counts
+pub mod Kept

@@ -1,5 +1,5 @@
 -- What a context tells of its operations, and how calls change it.
-use Rattle.std.specs.Prelude.{ℕ, ◌+◌, Bool, true, false, not, ◌==◌, ◌&&◌, List, [], ◌∷◌, ◌++◌, map, length, replicate, slice_get, count_by, Option, if◌then◌else◌}
+use Rattle.std.specs.Prelude.{ℕ, ◌+◌, Bool, true, false, not, ◌==◌, ◌&&◌, ◌||◌, List, [], ◌∷◌, ◌++◌, map, length, replicate, slice_get, count_by, Option, if◌then◌else◌}
 use Rattle.std.specs.Option.{option_map_or, option_map}
 use Rattle.fam_layout.specs.declared.plan.Plan.{Plan}
 use Rattle.fam_model.specs.declared.piece.PieceKind.{PieceKind}
@@ -8,6 +8,7 @@ use Rattle.fam_model.specs.declared.piece.PlanKind.{PlanKind}
 use Rattle.fam_model.specs.declared.piece.PlanKind.TheVariants as plan
 use Rattle.fam_model.specs.declared.piece.PlanPiece.{PlanPiece}
 use Rattle.fam_model.specs.declared.piece.MarkedPiece.{MarkedPiece}
+use Rattle.fam_model.specs.declared.piece.Mark.{Mark}
 use Rattle.fam_model.specs.declared.piece.Mark.TheVariants as mark
 use Rattle.fam_model.specs.declared.piece.Operation.{Operation}
 use Rattle.fam_model.specs.declared.reply.PieceAnswer.{PieceAnswer}
@@ -16,7 +17,7 @@ use Rattle.fam_model.specs.declared.reply.Reply.{Reply}
 use Rattle.fam_model.specs.declared.state.Context.{Context}
 use Rattle.fam_model.specs.IssueStep.{left_piece}
 use Rattle.fam_model.specs.Lists.{◌>>=◌, when, is_some_and, place_of, change_place}
-use Rattle.fam_model.specs.Operations.{is_left, may_come, is_copy, as_reported, result, reported as all_reported}
+use Rattle.fam_model.specs.Operations.{is_left, has_left, may_come, is_copy, as_reported, result, reported as all_reported}
 use Rattle.fam_model.specs.PieceStep.{is_copy_read, handed, marked, with_answer, without_piece}
 use Rattle.fam_model.specs.Programs.{call_number, operation_of, with_operation}
 use Rattle.fam_model.specs.Same.{same_reply}
@@ -125,11 +126,26 @@ is_answer_of plan piece answer.Ok = not (gives_bytes plan piece.kind)
 is_answer_of plan piece (answer.Data bytes) = gives_bytes plan piece.kind && length bytes == piece.n
 is_answer_of plan piece (answer.Refused error) = true
 
--- the piece is left, and may have this answer
+-- piece j is left, and may have this answer
+abbrev pub may_answer : Operation → ℕ → PieceAnswer → Bool
+may_answer operation j given =
+    is_some_and (slice_get operation.pieces j) (λ p. is_left p && is_answer_of operation.kind p.piece given)
+
+-- the piece of the operation of a call is left, and may have this answer
 abbrev pub may_collect : Context → ℕ → ℕ → PieceAnswer → Bool
-may_collect context call j given =
-    is_some_and (operation_of context call) (λ operation.
-    is_some_and (slice_get operation.pieces j) (λ p. is_left p && is_answer_of operation.kind p.piece given))
+may_collect context call j given = is_some_and (operation_of context call) (λ operation. may_answer operation j given)
+
+-- the operation with another mark of piece j
+abbrev pub with_mark : ℕ → Mark → Operation → Operation
+with_mark j new operation = record operation { pieces = change_place j (marked new) operation.pieces }
+
+-- the operation with other pieces
+abbrev pub with_pieces : (List MarkedPiece → List MarkedPiece) → Operation → Operation
+with_pieces change operation = record operation { pieces = change operation.pieces }
+
+-- the operation with other bytes of piece j
+abbrev pub with_bytes : ℕ → List ℕ → Operation → Operation
+with_bytes j bytes operation = record operation { pieces = change_place j (handed answer.Ok bytes) operation.pieces }
 
 -- the pieces once the read of a copy at j has this answer
 abbrev pub handed_over : ℕ → PieceAnswer → List MarkedPiece → List MarkedPiece
@@ -183,3 +199,8 @@ reported t = record t { context = all_reported t.context }
 -- the context once this piece is out
 abbrev pub posted : Tracked → ℕ → ℕ → Tracked
 posted t call j = record t { out = with_flag t call j true }
+
+-- the operation of a call is blocking or a copy, has no piece left, and its result was not told
+abbrev pub may_tell : Context → ℕ → Bool
+may_tell context call =
+    is_some_and (untold_of context call) (λ operation. (operation.blocking || is_copy operation.kind) && not (has_left operation))

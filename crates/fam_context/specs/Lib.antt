@@ -1,3 +1,5 @@
 pub mod Order
 pub mod Effects
 pub mod Results
+pub mod Counting
+pub mod Sides

@@ -1,17 +1,21 @@
 //! How calls change an operation and the flags of its pieces.
 
-ghost use Rattle.std.specs.Prelude.{◌≡◌, ◌<◌, ◌^◌, ◌++◌, ◌∷◌, [], false, map, replicate, slice_get, IfOk, OnOk, OnErr};
+ghost use Rattle.std.specs.Prelude.{◌≡◌, ◌<◌, ◌^◌, ◌++◌, ◌∷◌, ◌||◌, [], false, IsFalse, map, replicate, slice_get, IsTrue, IfOk, OnOk, OnErr};
 ghost use Rattle.fam_model.specs.IssueStep.{left_piece};
 ghost use Rattle.fam_model.specs.Lists.{is_some_and, change_place};
-ghost use Rattle.fam_model.specs.PieceStep.{handed, marked, is_copy_read};
-ghost use Rattle.fam_model.specs.declared.reply.PieceAnswer.TheVariants as answers;
-ghost use Rattle.fam_context.specs.Effects.{handed_over, planned_operation, with_collected, with_lost, with_one_more};
-ghost use Rattle.fam_model.specs.Operations.{as_reported};
+ghost use Rattle.fam_model.specs.PieceStep.{is_copy_read};
+ghost use Rattle.fam_context.specs.Effects.{handed_over, may_answer, with_bytes, with_pieces, planned_operation, with_collected, with_lost, with_one_more};
+ghost use Rattle.fam_context.specs.Sides.{IsSideOf, IsFresh, held_only, told_side};
+ghost use Rattle.fam_model.specs.Operations as operations;
+ghost use Rattle.fam_model.specs.Operations.{as_reported, is_copy};
 
+use crate::results::reply;
+use crate::side::{Side, room_for, set_flag, set_mark};
+use crate::tracked::Pending;
 use crate::words::is_copy_read;
 use fam_base::{Bytes, NoMemory, Sequence};
 use fam_layout::Plan;
-use fam_model::{Context, Mark, MarkedPiece, Operation, PieceAnswer, PlanPiece};
+use fam_model::{Context, Mark, MarkedPiece, Operation, PieceAnswer, PlanPiece, Reply};
 use std::alloc::Global;
 
 /// These pieces, all left.
@@ -41,41 +45,43 @@ pub(crate) fn none_out(alloc: Global, count: usize) -> Result<Sequence<bool>, No
     }
 }
 
-/// Another mark for a piece, if it is there.
-fn mark(pieces: &mut Sequence<MarkedPiece>, j: usize, mark: Mark)
-    ensures { pieces.new ≡ change_place j (marked mark) pieces.old }
-{
-    if j < pieces.len() {
-        pieces.at_mut(j).mark = mark;
-    }
-}
-
 /// Other bytes for a piece, if it is there.
-fn give(pieces: &mut Sequence<MarkedPiece>, j: usize, bytes: Bytes)
-    ensures { pieces.new ≡ change_place j (handed answers.Ok bytes) pieces.old }
+fn give(operation: &mut Operation, side: &Side, j: usize, bytes: Bytes)
+    requires { IsSideOf operation.old side.now }
+    ensures operation { operation.new ≡ with_bytes j bytes operation.old }
+    ensures kept { IsSideOf operation.new side.now }
 {
-    if j < pieces.len() {
-        pieces.at_mut(j).piece.bytes = bytes;
+    if j < operation.pieces.len() {
+        operation.pieces.at_mut(j).piece.bytes = bytes;
     }
 }
 
 /// The read of a copy is answered: the write after it has its bytes, or is gone.
-fn hand_over(alloc: Global, pieces: &mut Sequence<MarkedPiece>, j: usize, answer: PieceAnswer)
-    requires { j < 2 ^ 32 }
-    ensures { pieces.new ≡ handed_over j answer pieces.old }
+fn hand_over(
+    alloc: Global,
+    operation: &mut Operation,
+    side: &mut Side,
+    j: usize,
+    answer: PieceAnswer,
+)
+    requires kept { IsSideOf operation.old side.old }
+    requires number { j < 2 ^ 32 }
+    ensures operation { operation.new ≡ with_pieces (handed_over j answer) operation.old }
+    ensures flags { side.new.flags ≡ side.old.flags }
+    ensures kept { IsSideOf operation.new side.new }
 {
     match answer {
         PieceAnswer::Ok => {
-            mark(pieces, j, Mark::Answered(PieceAnswer::Ok));
-            give(pieces, j + 1, Bytes::new(alloc));
+            set_mark(operation, side, j, Mark::Answered(PieceAnswer::Ok));
+            give(operation, side, j + 1, Bytes::new(alloc));
         }
         PieceAnswer::Data(bytes) => {
-            mark(pieces, j, Mark::Answered(PieceAnswer::Ok));
-            give(pieces, j + 1, bytes);
+            set_mark(operation, side, j, Mark::Answered(PieceAnswer::Ok));
+            give(operation, side, j + 1, bytes);
         }
         PieceAnswer::Refused(error) => {
-            mark(pieces, j, Mark::Answered(PieceAnswer::Refused(error)));
-            mark(pieces, j + 1, Mark::Gone);
+            set_mark(operation, side, j, Mark::Answered(PieceAnswer::Refused(error)));
+            set_mark(operation, side, j + 1, Mark::Gone);
         }
     }
 }
@@ -90,40 +96,54 @@ fn reads_for_a_write(operation: &Operation, j: usize) -> bool
     }
 }
 
-/// Piece `j` is answered, if it is there. The bytes of a copy's read go to its write.
-pub(crate) fn collect(alloc: Global, operation: &mut Operation, j: usize, answer: PieceAnswer)
-    requires { j < 2 ^ 32 }
-    ensures { operation.new ≡ with_collected operation.old j answer }
+/// Piece `j` is answered, if it is there, and not out. The bytes of a copy's read go to its write.
+pub(crate) fn collect(
+    alloc: Global,
+    operation: &mut Operation,
+    side: &mut Side,
+    j: usize,
+    answer: PieceAnswer,
+)
+    requires kept { IsSideOf operation.old side.old }
+    requires number { j < 2 ^ 32 }
+    requires answer { IsTrue (may_answer operation.old j answer) }
+    ensures operation { operation.new ≡ with_collected operation.old j answer }
+    ensures flags { side.new.flags ≡ change_place j (λ _. false) side.old.flags }
+    ensures kept { IsSideOf operation.new side.new }
 {
+    set_flag(operation, side, j, false);
     if reads_for_a_write(operation, j) {
-        hand_over(alloc, &mut operation.pieces, j, answer);
+        hand_over(alloc, operation, side, j, answer);
     } else {
-        mark(&mut operation.pieces, j, Mark::Answered(answer));
+        set_mark(operation, side, j, Mark::Answered(answer));
     }
 }
 
-/// Piece `j` is lost, if it is there, and with a copy's read its write.
-pub(crate) fn lose(operation: &mut Operation, j: usize)
-    requires { j < 2 ^ 32 }
-    ensures { operation.new ≡ with_lost operation.old j }
+/// Piece `j` is lost, if it is there, and not out. With a copy's read its write is lost.
+pub(crate) fn lose(operation: &mut Operation, side: &mut Side, j: usize)
+    requires kept { IsSideOf operation.old side.old }
+    requires number { j < 2 ^ 32 }
+    ensures operation { operation.new ≡ with_lost operation.old j }
+    ensures flags { side.new.flags ≡ change_place j (λ _. false) side.old.flags }
+    ensures kept { IsSideOf operation.new side.new }
 {
     let goes_on = reads_for_a_write(operation, j);
-    mark(&mut operation.pieces, j, Mark::Gone);
+    set_flag(operation, side, j, false);
+    set_mark(operation, side, j, Mark::Gone);
     if goes_on {
-        mark(&mut operation.pieces, j + 1, Mark::Gone);
+        set_mark(operation, side, j + 1, Mark::Gone);
     }
 }
 
-/// Sets a flag, if it is there.
-pub(crate) fn set_flag(out: &mut Vec<Sequence<bool>>, k: usize, j: usize, flag: bool)
-    ensures { out.new.items ≡ change_place k (change_place j (λ _. flag)) out.old.items }
+/// The result of the operation was told.
+pub(crate) fn tell(operation: &mut Operation, side: &mut Side)
+    requires { IsSideOf operation.old side.old }
+    ensures operation { operation.new ≡ as_reported operation.old }
+    ensures flags { side.new.flags ≡ side.old.flags }
+    ensures kept { IsSideOf operation.new side.new }
 {
-    if k < out.len() {
-        let flags = &mut out[k];
-        if j < flags.len() {
-            *flags.at_mut(j) = flag;
-        }
-    }
+    operation.reported = true;
+    side.counts.done = 0;
 }
 
 /// The operation of a plan, with all its pieces left.
@@ -148,23 +168,61 @@ pub(crate) fn planned(
     })
 }
 
-/// Adds an operation and the flags of its pieces. After want of memory both lists are as they were.
+/// The result of a blocking operation or a copy, which is then told.
+pub(crate) fn give_result(alloc: Global, operation: &mut Operation, side: &mut Side) -> Reply
+    requires kept { IsSideOf operation.old side.old }
+    requires untold { IsFalse operation.old.reported }
+    requires answered { IsTrue (operation.old.blocking || is_copy operation.old.kind) }
+    ensures reply { result ≡ operations.result operation.old }
+    ensures operation { operation.new ≡ as_reported operation.old }
+    ensures flags { side.new.flags ≡ side.old.flags }
+    ensures kept { IsSideOf operation.new side.new }
+{
+    let room = std::mem::replace(&mut side.room, Vec::new(alloc));
+    let reply = reply(operation, room);
+    operation.reported = true;
+    side.counts.done = 0;
+    reply
+}
+
+/// What is kept beside a new operation of so many pieces.
+pub(crate) fn fresh(alloc: Global, operation: &Operation, count: usize) -> Result<Side, NoMemory>
+    requires fresh { IsFresh operation.now count }
+    requires few { count < 2 ^ 32 }
+    ensures flags { IfOk result (λ side. side.flags ≡ replicate count false) }
+    ensures kept { IfOk result (λ side. IsSideOf operation.now side) }
+    ensures counts { IfOk result (λ side. side.counts ≡ held_only count) }
+{
+    let flags = none_out(alloc, count)?;
+    let room = room_for(alloc, operation)?;
+    Ok(Side {
+        flags,
+        counts: Pending {
+            held: count as u64,
+            out: 0,
+            done: 0,
+        },
+        room,
+    })
+}
+
+/// Adds an operation and what is kept beside it. After want of memory both lists are as they were.
 pub(crate) fn add(
     context: &mut Context,
-    out: &mut Vec<Sequence<bool>>,
+    sides: &mut Vec<Side>,
     operation: Operation,
-    flags: Sequence<bool>,
+    side: Side,
 ) -> Result<(), NoMemory>
     ensures context_ok { OnOk result (context.new ≡ with_one_more context.old operation) }
-    ensures out_ok { OnOk result (out.new.items ≡ out.old.items ++ flags ∷ []) }
+    ensures sides_ok { OnOk result (sides.new.items ≡ sides.old.items ++ side ∷ []) }
     ensures context_err { OnErr result (context.new ≡ context.old) }
-    ensures out_err { OnErr result (out.new.items ≡ out.old.items) }
+    ensures sides_err { OnErr result (sides.new.items ≡ sides.old.items) }
 {
-    if out.push(flags).is_err() {
+    if sides.push(side).is_err() {
         return Err(NoMemory);
     }
     if context.operations.push(operation).is_err() {
-        out.pop();
+        sides.pop();
         return Err(NoMemory);
     }
     Ok(())
@@ -176,5 +234,21 @@ pub(crate) fn report_all(operations: &mut Sequence<Operation>)
 {
     for at in 0..operations.len() {
         operations.at_mut(at).reported = true;
+    }
+}
+
+/// None of the pieces counts as done any more.
+pub(crate) fn tell_each(sides: &mut Vec<Side>)
+    ensures { sides.new.items ≡ map told_side sides.old.items }
+{
+    tell_all(sides.as_mut_slice());
+}
+
+/// The same of a slice.
+fn tell_all(sides: &mut [Side])
+    ensures { sides.new ≡ map told_side sides.old }
+{
+    for side in sides.iter_mut() {
+        side.counts.done = 0;
     }
 }

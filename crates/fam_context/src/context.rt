@@ -2,8 +2,9 @@
 
 ghost use Rattle.std.specs.Prelude.{◌≡◌, ◌<◌, ◌+◌, ◌^◌, false, [], map, length, option_copied, option_map, IsTrue, IsFalse, IsSome, IsOk, IfOk, OnOk, OnErr, All, not};
 
-use crate::changes::{add, collect, lose, none_out, planned, report_all, set_flag};
-use crate::words::flag_at;
+use crate::changes::{add, collect, fresh, give_result, lose, planned, report_all, tell, tell_each};
+use crate::side::{Side, flag_at, recount, set_flag};
+use crate::tracked::Pending;
 use crate::{results, words};
 use fam_base::{NoMemory, Sequence};
 use fam_layout::Plan;
@@ -14,13 +15,22 @@ use std::marker::Model;
 /// The numbers of pieces have 32 bits.
 const MOST_PIECES: usize = 4_294_967_295;
 
+/// No piece counts.
+const NONE: Pending = Pending {
+    held: 0,
+    out: 0,
+    done: 0,
+};
+
 /// The operations of a context, in order of their calls' numbers. Contracts see the context of the
 /// definitions, and which pieces are out.
 #[derive(Drop)]
 pub struct Context {
     alloc: Global,
     context: fam_model::Context,
-    out: Vec<Sequence<bool>>,
+    sides: Vec<Side>,
+    pending: Pending,
+    pieces: u64,
 }
 
 impl Model for Context {
@@ -28,11 +38,12 @@ impl Model for Context {
 
     ghost Value = { Tracked };
 
-    ghost use Rattle.fam_context.specs.Order.{IsOrdered, tracked};
+    ghost use Rattle.fam_context.specs.Order.{tracked};
+    ghost use Rattle.fam_context.specs.Sides.{IsKept, flags_of};
 
-    ghost view = { λ c. tracked c.context c.out.items };
+    ghost view = { λ c. tracked c.context (flags_of c.sides.items) };
 
-    ghost invariant = { λ c. IsOrdered (tracked c.context c.out.items) };
+    ghost invariant = { λ c. IsKept c.context c.sides.items c.pending c.pieces };
 }
 
 impl Context {
@@ -42,6 +53,7 @@ impl Context {
     ghost use Rattle.fam_model.specs.Opened.{closed_context};
     ghost use Rattle.fam_model.specs.Same.{same_reply};
     ghost use Rattle.fam_model.specs.Programs.{call_number, has_operation, operation_of};
+    ghost use Rattle.fam_context.specs.Counting.{pending_of};
     ghost use Rattle.fam_context.specs.Effects as effects;
     ghost use Rattle.fam_context.specs.Order.{IsOrdered, tracked, is_planned_in_turn};
 
@@ -56,7 +68,9 @@ impl Context {
                 epoch: 0,
                 operations: Sequence::new(alloc),
             },
-            out: Vec::new(alloc),
+            sides: Vec::new(alloc),
+            pending: NONE,
+            pieces: 0,
         }
     }
 
@@ -71,7 +85,9 @@ impl Context {
                 epoch: 0,
                 operations: Sequence::new(alloc),
             },
-            out: Vec::new(alloc),
+            sides: Vec::new(alloc),
+            pending: NONE,
+            pieces: 0,
         }
     }
 
@@ -83,7 +99,9 @@ impl Context {
         self.context.is_open = true;
         self.context.epoch = 0;
         self.context.operations = Sequence::new(self.alloc);
-        self.out = Vec::new(self.alloc);
+        self.sides = Vec::new(self.alloc);
+        self.pending = NONE;
+        self.pieces = 0;
     }
 
     /// The context is not open any more. Its operations stay.
@@ -217,12 +235,19 @@ impl Context {
         ensures ok { OnOk result (self.new ≡ effects.issued self.old call plan blocking) }
         ensures err { OnErr result (self.new ≡ self.old) }
     {
-        if plan.pieces.len() > MOST_PIECES {
+        let count = plan.pieces.len();
+        if count > MOST_PIECES {
             return Err(NoMemory);
         }
-        let flags = none_out(self.alloc, plan.pieces.len())?;
+        let Some(pieces) = self.pieces.checked_add(count as u64) else {
+            return Err(NoMemory);
+        };
         let operation = planned(self.alloc, call, self.context.epoch, plan, blocking)?;
-        add(&mut self.context, &mut self.out, operation, flags)
+        let side = fresh(self.alloc, &operation, count)?;
+        add(&mut self.context, &mut self.sides, operation, side)?;
+        self.pieces = pieces;
+        self.pending.held += count as u64;
+        Ok(())
     }
 
     /// A piece is answered. A copy's read is answered with the bytes that it read: it is then done, and its
@@ -234,13 +259,11 @@ impl Context {
         let Some(at) = words::place_of(&self.context, call) else {
             return;
         };
-        collect(
-            self.alloc,
-            self.context.operations.at_mut(at),
-            piece as usize,
-            answer,
-        );
-        set_flag(&mut self.out, at, piece as usize, false);
+        let side = &mut self.sides[at];
+        let before = side.counts;
+        let operation = self.context.operations.at_mut(at);
+        collect(self.alloc, operation, side, piece as usize, answer);
+        self.pending = recount(self.pending, before, side.counts);
     }
 
     /// A piece is lost, and with a copy's read its write.
@@ -251,8 +274,10 @@ impl Context {
         let Some(at) = words::place_of(&self.context, call) else {
             return;
         };
-        lose(self.context.operations.at_mut(at), piece as usize);
-        set_flag(&mut self.out, at, piece as usize, false);
+        let side = &mut self.sides[at];
+        let before = side.counts;
+        lose(self.context.operations.at_mut(at), side, piece as usize);
+        self.pending = recount(self.pending, before, side.counts);
     }
 
     /// The result of an operation was told.
@@ -263,7 +288,10 @@ impl Context {
         let Some(at) = words::place_of(&self.context, call) else {
             return;
         };
-        self.context.operations.at_mut(at).reported = true;
+        let side = &mut self.sides[at];
+        let before = side.counts;
+        tell(self.context.operations.at_mut(at), side);
+        self.pending = recount(self.pending, before, side.counts);
     }
 
     /// All results were told.
@@ -271,6 +299,8 @@ impl Context {
         ensures { self.new ≡ effects.reported self.old }
     {
         report_all(&mut self.context.operations);
+        tell_each(&mut self.sides);
+        self.pending.done = 0;
     }
 
     /// Whether the piece may come and is not out.
@@ -285,7 +315,7 @@ impl Context {
         ensures { result ≡ effects.is_out self.now call piece }
     {
         match words::place_of(&self.context, call) {
-            Some(at) => flag_at(self.out.as_slice(), at, piece as usize),
+            Some(at) => flag_at(self.sides.as_slice(), at, piece as usize),
             None => false,
         }
     }
@@ -295,9 +325,13 @@ impl Context {
         requires { IsTrue (effects.may_post self.old call piece) }
         ensures { self.new ≡ effects.posted self.old call piece }
     {
-        if let Some(at) = words::place_of(&self.context, call) {
-            set_flag(&mut self.out, at, piece as usize, true);
-        }
+        let Some(at) = words::place_of(&self.context, call) else {
+            return;
+        };
+        let side = &mut self.sides[at];
+        let before = side.counts;
+        set_flag(self.context.operations.at(at), side, piece as usize, true);
+        self.pending = recount(self.pending, before, side.counts);
     }
 
     /// The results of all nonblocking operations that were not reported yet, in order of call. All results are
@@ -310,5 +344,30 @@ impl Context {
         let results = results::results_of(self.alloc, self.context.operations.as_slice())?;
         self.mark_reported();
         Ok(Reply::Report(results))
+    }
+
+    /// How many pieces are held, how many are out, and how many are answered while their operation's result was
+    /// not told.
+    pub fn pending(&self) -> Pending
+        ensures { result ≡ pending_of self.now }
+    {
+        self.pending
+    }
+
+    /// The reply to a blocking call, or to waiting for a copy. Its result is then told. It takes no memory: that
+    /// of a get's bytes was taken at issue.
+    pub fn answer(&mut self, call: u64) -> Reply
+        requires { IsTrue (effects.may_tell self.old.context call) }
+        ensures reply { option_map operations.result (operation_of self.old.context call) ≡ Some result }
+        ensures after { self.new ≡ effects.told self.old call }
+    {
+        let Some(at) = words::place_of(&self.context, call) else {
+            unreachable!()
+        };
+        let side = &mut self.sides[at];
+        let before = side.counts;
+        let reply = give_result(self.alloc, self.context.operations.at_mut(at), side);
+        self.pending = recount(self.pending, before, side.counts);
+        reply
     }
 }

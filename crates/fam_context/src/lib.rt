@@ -4,6 +4,7 @@
 mod changes;
 mod context;
 mod results;
+mod side;
 mod tracked;
 mod words;
 

@@ -1,6 +1,7 @@
 //! What is told of operations: their results and reports.
 
-ghost use Rattle.std.specs.Prelude.{◌≡◌, slice_index, IfOk};
+ghost use Rattle.std.specs.Prelude.{◌≡◌, ◌+◌, ◌≤◌, ◌++◌, true, length, take, drop, slice_index, IfOk};
+ghost use Rattle.fam_context.specs.Sides.{is_get, needed};
 ghost use Rattle.std.specs.List.{flat_map};
 ghost use Rattle.std.specs.Option.{option_copied};
 ghost use Rattle.std.specs.Int.{w32, w64, w128, from_le_bytes};
@@ -291,4 +292,43 @@ pub(crate) fn results_of(alloc: Global, all: &[Operation]) -> Result<Sequence<Op
         }
     }
     Ok(told)
+}
+
+/// Writes a part into the room from a place on.
+fn put(room: &mut Vec<u8>, at: usize, part: &[u8])
+    requires { at + length part.now ≤ length room.old.items }
+    ensures { room.new.items ≡ take at room.old.items ++ part.now ++ drop (at + length part.now) room.old.items }
+{
+    room[at..at + part.len()].copy_from_slice(part);
+}
+
+/// The bytes of pieces in order, in the room that was made for them.
+fn fill(mut room: Vec<u8>, pieces: &[MarkedPiece]) -> Bytes
+    requires { needed pieces.now ≤ length room.items }
+    ensures { result ≡ flat_map (λ p. operations.bytes_in p.mark) pieces.now }
+{
+    let mut at = 0;
+    for piece in pieces {
+        let part = bytes_in(&piece.mark);
+        put(&mut room, at, part);
+        at += part.len();
+    }
+    room.truncate(at);
+    Bytes::from_vec(room)
+}
+
+/// The result of an operation, with room for its bytes if it is a get.
+#[tactic(auto, using(crate::proofs::Telling::result_by_first))]
+pub(crate) fn reply(operation: &Operation, room: Vec<u8>) -> Reply
+    requires { is_get operation.now.kind ≡ true → needed operation.now.pieces ≤ length room.items }
+    ensures { result ≡ operations.result operation.now }
+{
+    if let Some(error) = first_refusal(operation) {
+        return Reply::Error(error);
+    }
+    match operation.kind {
+        PlanKind::Put | PlanKind::Copy => Reply::Done,
+        PlanKind::Get => Reply::Bytes(fill(room, operation.pieces.as_slice())),
+        PlanKind::Fetch => Reply::Value(old_number(operation.pieces.as_slice())),
+    }
 }

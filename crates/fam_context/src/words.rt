@@ -8,7 +8,6 @@ ghost use Rattle.fam_model.specs.PieceStep.{is_read};
 ghost use Rattle.fam_model.specs.Programs.{call_number, has_operation, operation_of};
 ghost use Rattle.fam_context.specs.Effects.{left_count};
 
-use fam_base::Sequence;
 use fam_model::{Context, Mark, MarkedPiece, Operation, PieceAnswer, PieceKind, PlanKind};
 
 pub(crate) fn place_of(context: &Context, call: u64) -> Option<usize>
@@ -146,17 +145,5 @@ pub(crate) fn is_copy_read(plan: PlanKind, kind: PieceKind) -> bool
     match kind {
         PieceKind::Read => is_copy(plan),
         _ => false,
-    }
-}
-
-pub(crate) fn flag_at(out: &[Sequence<bool>], k: usize, j: usize) -> bool
-    ensures { result ≡ is_some_and (slice_get out.now k) (λ flags. is_some_and (slice_get flags j) (λ flag. flag)) }
-{
-    match out.get(k) {
-        Some(flags) => match flags.get(j) {
-            Some(flag) => *flag,
-            None => false,
-        },
-        None => false,
     }
 }

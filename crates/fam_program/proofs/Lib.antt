@@ -5,3 +5,5 @@ pub mod Opening
 pub mod Parts
 pub mod Issuing
 pub mod Reporting
+pub mod Telling
+pub mod Waiting

@@ -55,32 +55,32 @@ nowhere : (p : ProgramState) (call : ℕ) → context_of p call ≡ None → pla
 nowhere p call e =
     ap (λ (o : Option ℕ). o >>= λ k. slice_get p.contexts k >>= λ there. operation_of there call >>= λ operation. Some (put k there operation)) e
 
-past_all : (p : ProgramState) (call c : ℕ) → context_of p call ≡ Some c → slice_get p.contexts c ≡ None → placed p call ≡ None
+pub past_all : (p : ProgramState) (call c : ℕ) → context_of p call ≡ Some c → slice_get p.contexts c ≡ None → placed p call ≡ None
 past_all p call c e g =
     ap (λ (o : Option ℕ). o >>= λ k. slice_get p.contexts k >>= λ there. operation_of there call >>= λ operation. Some (put k there operation)) e
     ∙ ap (λ (o : Option Context). o >>= λ there. operation_of there call >>= λ operation. Some (put c there operation)) g
 
 -- a test that a context answers
-abbrev Answers : ℕ → (Placed → Bool) → (Tracked → Bool) → Type 0
-Answers call test asked = (c : ℕ) (t : Tracked) → is_some_and (operation_of t.context call) (λ operation. test (put c t.context operation)) ≡ asked t
+abbrev pub Answers : List Tracked → ℕ → (Placed → Bool) → (Tracked → Bool) → Type 0
+Answers ts call test asked = (c : ℕ) (t : Tracked) → slice_get ts c ≡ Some t → is_some_and (operation_of t.context call) (λ operation. test (put c t.context operation)) ≡ asked t
 
-held_in : (p : ProgramState) (ts : List Tracked) (call c : ℕ) (test : Placed → Bool) (asked : Tracked → Bool) → p.contexts ≡ contexts_of ts → Answers call test asked → context_of p call ≡ Some c → (o : Option Tracked) → slice_get ts c ≡ o → is_some_and (placed p call) test ≡ is_some_and o asked
+held_in : (p : ProgramState) (ts : List Tracked) (call c : ℕ) (test : Placed → Bool) (asked : Tracked → Bool) → p.contexts ≡ contexts_of ts → Answers ts call test asked → context_of p call ≡ Some c → (o : Option Tracked) → slice_get ts c ≡ o → is_some_and (placed p call) test ≡ is_some_and o asked
 held_in p ts call c test asked e same found (Some t) g =
-    test_at p call c t.context found (ap (λ (cs : List Context). slice_get cs c) e ∙ context_there ts c t g) test ∙ same c t
+    test_at p call c t.context found (ap (λ (cs : List Context). slice_get cs c) e ∙ context_there ts c t g) test ∙ same c t g
 held_in p ts call c test asked e same found None g =
     let past : slice_get p.contexts c ≡ None = ap (λ (cs : List Context). slice_get cs c) e ∙ context_at ts c ∙ ap (option_map (λ (s : Tracked). s.context)) g in
     ap (λ (o : Option Placed). is_some_and o test) (past_all p call c found past)
 
-held_or_not : (p : ProgramState) (ts : List Tracked) (call : ℕ) (test : Placed → Bool) (asked : Tracked → Bool) → p.contexts ≡ contexts_of ts → Answers call test asked → (o : Option ℕ) → context_of p call ≡ o → is_some_and (placed p call) test ≡ is_some_and (o >>= λ c. slice_get ts c) asked
+held_or_not : (p : ProgramState) (ts : List Tracked) (call : ℕ) (test : Placed → Bool) (asked : Tracked → Bool) → p.contexts ≡ contexts_of ts → Answers ts call test asked → (o : Option ℕ) → context_of p call ≡ o → is_some_and (placed p call) test ≡ is_some_and (o >>= λ c. slice_get ts c) asked
 held_or_not p ts call test asked e same None found = ap (λ (o : Option Placed). is_some_and o test) (nowhere p call found)
 held_or_not p ts call test asked e same (Some c) found = held_in p ts call c test asked e same found (slice_get ts c) refl
 
 -- a test of the operation of a call is one of the context that has it
-pub asked_there : (p : ProgramState) (ts : List Tracked) (call : ℕ) (test : Placed → Bool) (asked : Tracked → Bool) → p.contexts ≡ contexts_of ts → Answers call test asked → is_some_and (placed p call) test ≡ is_some_and (holder_in ts call) asked
+pub asked_there : (p : ProgramState) (ts : List Tracked) (call : ℕ) (test : Placed → Bool) (asked : Tracked → Bool) → p.contexts ≡ contexts_of ts → Answers ts call test asked → is_some_and (placed p call) test ≡ is_some_and (holder_in ts call) asked
 asked_there p ts call test asked e same = held_or_not p ts call test asked e same (place_in ts call) (place_is p ts call e)
 
 pub due_there : (p : ProgramState) (ts : List Tracked) (call j : ℕ) → p.contexts ≡ contexts_of ts → is_due p call j ≡ is_some_and (holder_in ts call) (λ t. effects.may_come_of t.context call j)
-due_there p ts call j e = asked_there p ts call (λ at. may_come at.context at.operation j) (λ t. effects.may_come_of t.context call j) e (λ c t. refl)
+due_there p ts call j e = asked_there p ts call (λ at. may_come at.context at.operation j) (λ t. effects.may_come_of t.context call j) e (λ c t g. refl)
 
 left_of_operation : (o : Option Operation) (j : ℕ) → is_some_and o (λ operation. is_some_and (slice_get operation.pieces j) is_left) ≡ is_some_and (o >>= λ operation. slice_get operation.pieces j) is_left
 left_of_operation None j = refl
@@ -89,12 +89,12 @@ left_of_operation (Some operation) j = refl
 pub left_there : (p : ProgramState) (ts : List Tracked) (call j : ℕ) → p.contexts ≡ contexts_of ts → is_left_piece p call j ≡ is_some_and (holder_in ts call) (λ t. effects.is_left_of t.context call j)
 left_there p ts call j e =
     asked_there p ts call (λ at. is_some_and (slice_get at.operation.pieces j) is_left) (λ t. effects.is_left_of t.context call j) e
-    (λ c t. left_of_operation (operation_of t.context call) j)
+    (λ c t g. left_of_operation (operation_of t.context call) j)
 
 pub collect_there : (p : ProgramState) (ts : List Tracked) (call j : ℕ) (given : PieceAnswer) → p.contexts ≡ contexts_of ts → may_collect p call j given ≡ is_some_and (holder_in ts call) (λ t. effects.may_collect t.context call j given)
 collect_there p ts call j given e =
     asked_there p ts call (λ at. is_some_and (slice_get at.operation.pieces j) (λ q. is_left q && effects.is_answer_of at.operation.kind q.piece given))
-    (λ t. effects.may_collect t.context call j given) e (λ c t. refl)
+    (λ t. effects.may_collect t.context call j given) e (λ c t g. refl)
 
 -- where a test of the holder holds, there is a place
 pub place_there : (ts : List Tracked) (call : ℕ) (asked : Tracked → Bool) → is_some_and (holder_in ts call) asked ≡ true → is_some (place_in ts call) ≡ true
@@ -109,7 +109,7 @@ asked_of ts call c t asked h found g =
     sym (ap (λ (o : Option ℕ). is_some_and (o >>= λ k. slice_get ts k) asked) found ∙ ap (λ (o : Option Tracked). is_some_and o asked) g) ∙ h
 
 -- an operation found is one of the list
-found_in : (P : Operation → Type 0) (context : Context) (call : ℕ) (operation : Operation) → All P context.operations → operation_of context call ≡ Some operation → P operation
+pub found_in : (P : Operation → Type 0) (context : Context) (call : ℕ) (operation : Operation) → All P context.operations → operation_of context call ≡ Some operation → P operation
 found_in P context call operation h e = of_place (place_of call_number call context.operations) e where
   of_place : (o : Option ℕ) → (o >>= λ k. slice_get context.operations k) ≡ Some operation → P operation
   of_place None e' = absurd (let impossible : ⊥ = cc in impossible)

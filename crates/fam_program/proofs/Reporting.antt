@@ -34,7 +34,7 @@ idle_is (started.Operation k) call h e = false≢true h
 idle_is (started.Barrier k) call h e = false≢true h
 
 -- an operation whose result is told
-told_issued : (n : ℕ) (begun : Started) → is_idle begun ≡ true → (operation : Operation) → IsIssued n begun operation → IsIssued n begun (as_reported operation)
+pub told_issued : (n : ℕ) (begun : Started) → is_idle begun ≡ true → (operation : Operation) → IsIssued n begun operation → IsIssued n begun (as_reported operation)
 told_issued n begun idle operation h =
     record { below = h.below; copies = h.copies; begins = λ e. absurd (idle_is begun operation.call idle e) }
 
@@ -93,7 +93,7 @@ told_step p ts c test f make e same (Some t) g =
     ∙ ap (λ (context : Context). when (t.context.is_open && test t.context) (with_context (counted p) c context)) (sym (same t))
     ∙ ap (λ (q : ProgramState). when (t.context.is_open && test t.context) q) (with_set (counted p) ts c (f t) e)
 
-is_some_when : {A : Type 0} (b : Bool) (x : A) → is_some (when b x) ≡ b
+pub is_some_when : {A : Type 0} (b : Bool) (x : A) → is_some (when b x) ≡ b
 is_some_when true x = refl
 is_some_when false x = refl
 

@@ -2,12 +2,14 @@
 
 ghost use Rattle.std.specs.Prelude.{◌≡◌, ◌<◌, IfOk};
 
+mod answers;
 mod contexts;
 mod ends;
 mod issue;
 mod pieces;
 mod reports;
 mod requests;
+mod waits;
 
 use crate::budget::moved;
 use crate::shaped::makes_shaped;

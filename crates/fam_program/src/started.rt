@@ -3,9 +3,11 @@
 ghost use Rattle.std.specs.Prelude.{◌≡◌, ◌==◌, nat_lt};
 ghost use Rattle.fam_model.specs.Lists.{is_some_and};
 ghost use Rattle.fam_model.specs.Programs as programs;
+ghost use Rattle.fam_model.specs.Same.{same_reply};
 ghost use Rattle.fam_model.specs.Turn as turns;
+ghost use Rattle.fam_model.specs.declared.reply.Reply.TheVariants as reply;
 
-use fam_model::{Standing, Started};
+use fam_model::{Reply, Standing, Started};
 
 pub(crate) fn is_running(standing: Standing) -> bool
     ensures { result ≡ programs.is_running standing }
@@ -54,4 +56,11 @@ pub(crate) fn is_before(arrived: Option<u64>, round: u64) -> bool
         Some(at) => at < round,
         None => false,
     }
+}
+
+/// Whether this is the reply to a barrier.
+pub(crate) fn is_passed(given: &Reply) -> bool
+    ensures { result ≡ same_reply given.now reply.Passed }
+{
+    *given == Reply::Passed
 }
