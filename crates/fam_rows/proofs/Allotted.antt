@@ -1,10 +1,10 @@
 -- Lawful rows stay lawful under a lawful change of items.
-use Rattle.std.proofs.Common.{◌≡◌, ◌≢◌, ℕ, ◌+◌, ◌-◌, ◌%◌, ◌<◌, ◌≤◌, ◌⊎◌, Bool, true, false, cond, eqb, ltb, leb, List, [], ◌∷◌, ◌++◌, length, get_or, Option, Some, None, is_none, is_some, inl, inr, refl, sym, ap, ◌∙◌, subst, arith}
-use mathlib.Core.Bool.{not, ◌&&◌}
+use Rattle.std.proofs.Common.{◌≡◌, ◌≢◌, ℕ, ◌+◌, ◌%◌, ◌<◌, ◌≤◌, ◌⊎◌, Bool, true, false, eqb, ltb, leb, List, [], ◌∷◌, ◌++◌, length, get_or, is_none, inl, inr, refl, sym, ap, ◌∙◌, subst, arith}
+use mathlib.Core.Bool.{not}
 use mathlib.Core.List.{map}
-use Rattle.std.specs.List.{All, AllPairs, filter, find, list_all}
+use Rattle.std.specs.List.{filter, list_all}
 use Rattle.std.specs.Str.{bytes_eq}
-use Rattle.std.proofs.lemmas.Bool.{cases_Bool, and_parts, or_cases, eq-eqb, ne_eqb, eqb-true, eqb-false, ltb-true, leb-true, not-true, not_from_false, cond-false, cond_both}
+use Rattle.std.proofs.lemmas.Bool.{and_parts, or_cases, eq-eqb, ne_eqb, eqb-true, eqb-false, ltb-true, leb-true, not-true, not_from_false, cond-false, cond_both}
 use Rattle.std.proofs.lemmas.List.{length-append, length-map}
 use Rattle.std.proofs.lemmas.List.Elements.{All-weaker, All-push, All-filter, All-map}
 use Rattle.std.proofs.lemmas.List.Kept.{AllPairs-filter}
@@ -14,14 +14,13 @@ use Rattle.fam_base.specs.Name.{is_good_name}
 use Rattle.fam_base.specs.declared.naming.RegionId.{RegionId}
 use Rattle.fam_base.specs.declared.naming.ItemId.{ItemId}
 use Rattle.fam_model.specs.declared.change.Change.TheVariants as change
-use Rattle.fam_model.specs.declared.rows.RegionRow.{RegionRow}
 use Rattle.fam_model.specs.declared.rows.ItemRow.{ItemRow}
 use Rattle.fam_model.specs.declared.rows.Rows.{Rows}
 use Rattle.fam_model.specs.Directory.{after}
 use Rattle.fam_model.specs.Lawful.{is_lawful_change, is_good_row, is_next_number, is_common}
 use Rattle.fam_model.specs.Limits.{max_region_size, max_items, number_end, nobody}
 use Rattle.fam_model.specs.Lists.{is_some_and}
-use Rattle.fam_model.specs.Rows.{IsLawful, IsLawfulRegion, IsLawfulItem, AreApart, common_region, common_item, region_of, item_of, item_named, items_in, region_number, item_number, room, room_end, is_beside, fits}
+use Rattle.fam_model.specs.Rows.{IsLawful, IsLawfulRegion, IsLawfulItem, AreApart, common_item, region_of, item_of, item_named, items_in, region_number, item_number, room, room_end, is_beside, fits}
 use Rattle.fam_rows.proofs.Edits.{All_unfound, All_kept, first_kept, first_grown, first_mapped, length_kept, AllPairs_mapped, AllPairs_weaker, rising, changed_one, change_is_map, rise_mapped}
 use Rattle.fam_rows.proofs.Places.{rises}
 use Rattle.fam_rows.proofs.Searches.{passes_found}

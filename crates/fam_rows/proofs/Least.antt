@@ -1,9 +1,8 @@
 -- The least base fits, and no lower one does.
-use Rattle.std.proofs.Common.{◌≡◌, ℕ, ◌+◌, ◌*◌, ◌/◌, ◌%◌, ◌<◌, ◌≤◌, Bool, true, false, eqb, leb, ltb, List, [], ◌∷◌, length, get_or, Option, Some, None, is_none, is_some, IsSome, inl, inr, refl, sym, ap, ◌∙◌, subst, arith}
-use mathlib.Core.Bool.{not, ◌&&◌}
-use mathlib.Core.List.{map}
-use Rattle.std.specs.List.{find, list_all, list_any, position_or_len, range_with_len, slice_get}
-use Rattle.std.proofs.lemmas.Bool.{false≢true, cases_Bool, cases_lt, eqb-true, leb-true, both_ways, not-false}
+use Rattle.std.proofs.Common.{◌≡◌, ℕ, ◌+◌, ◌*◌, ◌/◌, ◌%◌, ◌<◌, Bool, true, false, eqb, leb, ltb, List, [], ◌∷◌, length, get_or, Some, None, is_some, IsSome, inl, inr, refl, sym, ap, ◌∙◌, arith}
+use mathlib.Core.Bool.{not}
+use Rattle.std.specs.List.{list_all, position_or_len, slice_get}
+use Rattle.std.proofs.lemmas.Bool.{cases_Bool, cases_lt, eqb-true, leb-true, both_ways, not-false}
 use Rattle.std.proofs.lemmas.List.Folds.{find_at}
 use Rattle.std.proofs.lemmas.List.FromFn.{get_or-map-range_with_len, length-map-range_with_len}
 use Rattle.std.proofs.lemmas.List.Sums.{fails_before_first}
@@ -14,7 +13,6 @@ use Rattle.fam_base.specs.declared.error.FamError.{FamError}
 use Rattle.fam_base.specs.declared.error.FamError.TheVariants.{Absent, NoPermission, TooLarge, NoSpace, Exists, BadName}
 use Rattle.fam_base.specs.declared.naming.Need.TheVariants.{Write}
 use Rattle.fam_base.specs.declared.naming.Who.{Who}
-use Rattle.fam_base.specs.declared.naming.RegionId.{RegionId}
 use Rattle.fam_model.specs.declared.request.Request.{Request}
 use Rattle.fam_model.specs.declared.request.Request.TheVariants as request
 use Rattle.fam_model.specs.declared.rows.RegionRow.{RegionRow}

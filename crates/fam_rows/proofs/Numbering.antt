@@ -1,20 +1,16 @@
 -- Numbers are never used again.
-use Rattle.std.proofs.Common.{◌≡◌, ℕ, ◌+◌, ◌<◌, ◌≤◌, Bool, true, false, eqb, ltb, leb, List, [], ◌∷◌, ◌++◌, length, get_or, Option, Some, None, is_none, refl, sym, ap, ◌∙◌, subst, arith}
-use mathlib.Core.Bool.{not, ◌&&◌}
+use Rattle.std.proofs.Common.{◌≡◌, ℕ, ◌+◌, Bool, true, eqb, ltb, leb, List, [], ◌∷◌, ◌++◌, length, get_or, None, is_none, refl, sym, ◌∙◌, subst, arith}
 use mathlib.Core.List.{map}
-use Rattle.std.specs.List.{All, filter, find}
+use Rattle.std.specs.List.{All, filter}
 use Rattle.std.proofs.lemmas.Bool.{both_ways, and_parts, eq-eqb, eqb-true, leb-true, cond_both}
 use Rattle.std.proofs.lemmas.List.Elements.{All-push, All-filter, All-map}
 use Rattle.fam_model.specs.declared.change.Change.{Change}
 use Rattle.fam_model.specs.declared.change.Change.TheVariants as change
-use Rattle.fam_model.specs.declared.rows.RegionRow.{RegionRow}
-use Rattle.fam_model.specs.declared.rows.ItemRow.{ItemRow}
 use Rattle.fam_model.specs.declared.rows.Rows.{Rows}
-use Rattle.fam_model.specs.Directory.{after, cuts_item}
-use Rattle.fam_model.specs.Lawful.{is_lawful_change, is_good_row, is_next_number, is_common}
+use Rattle.fam_model.specs.Lawful.{is_lawful_change, is_good_row, is_next_number}
 use Rattle.fam_model.specs.Limits.{max_items, max_regions, max_total_size, number_end}
 use Rattle.fam_model.specs.Lists.{find_number, is_some_and, change_number}
-use Rattle.fam_model.specs.Rows.{IsLawful, region_named, item_named, total_size, fits, region_of, item_of, region_number, item_number}
+use Rattle.fam_model.specs.Rows.{IsLawful, region_named, item_named, total_size, fits, region_of, region_number, item_number}
 use Rattle.fam_rows.specs.Laws.{NumbersAreNew}
 use Rattle.fam_rows.proofs.Edits.{All_unfound, Rise, changed_one, change_is_map}
 use Rattle.fam_rows.proofs.Places.{rises}

@@ -1,16 +1,16 @@
 -- Lawful rows stay lawful under a lawful change of regions.
-use Rattle.std.proofs.Common.{◌≡◌, ◌≢◌, ℕ, ◌+◌, ◌-◌, ◌<◌, ◌≤◌, Bool, true, false, cond, eqb, ltb, leb, List, [], ◌∷◌, ◌++◌, length, get_or, Option, Some, None, is_none, is_some, inl, inr, refl, sym, ap, ◌∙◌, subst, arith}
+use Rattle.std.proofs.Common.{◌≡◌, ◌≢◌, ℕ, ◌+◌, ◌-◌, ◌<◌, ◌≤◌, Bool, true, false, eqb, ltb, leb, List, [], ◌∷◌, ◌++◌, length, get_or, Some, is_none, refl, sym, ap, ◌∙◌, subst, arith}
 use mathlib.Core.Bool.{not, ◌&&◌}
 use mathlib.Core.List.{map}
-use Rattle.std.specs.List.{All, AllPairs, filter, find, list_any, slice_get, sum_by}
+use Rattle.std.specs.List.{filter, find, sum_by}
 use Rattle.std.specs.Option.{option_map}
 use Rattle.std.specs.Str.{bytes_eq}
-use Rattle.std.proofs.lemmas.Bool.{false≢true, cases_Bool, cases_eq, and_parts, eq-eqb, ne_eqb, eqb-true, eqb-false, ltb-true, ltb-false, leb-true, leb-false, not-true, not_from_false, cond-true, cond-false, cond_both}
+use Rattle.std.proofs.lemmas.Bool.{and_parts, eq-eqb, ne_eqb, eqb-true, eqb-false, ltb-true, ltb-false, leb-true, not-true, not_from_false, cond-false, cond_both}
 use Rattle.std.proofs.lemmas.List.{length-append, length-map}
 use Rattle.std.proofs.lemmas.List.Elements.{All-weaker, All-push, All-filter, All-map, filter_passes}
 use Rattle.std.proofs.lemmas.List.Kept.{AllPairs-filter}
 use Rattle.std.proofs.lemmas.List.Quantifiers.{all_pairs_push}
-use Rattle.std.proofs.lemmas.List.Sums.{sum_by-append, sum_by-cons}
+use Rattle.std.proofs.lemmas.List.Sums.{sum_by-append}
 use Rattle.fam_base.specs.Name.{is_good_name}
 use Rattle.fam_base.specs.declared.naming.RegionId.{RegionId}
 use Rattle.fam_model.specs.declared.change.Change.TheVariants as change
@@ -20,9 +20,9 @@ use Rattle.fam_model.specs.declared.rows.Rows.{Rows}
 use Rattle.fam_model.specs.Directory.{after, cuts_item}
 use Rattle.fam_model.specs.Lawful.{is_lawful_change, is_good_row, is_next_number, is_common}
 use Rattle.fam_model.specs.Limits.{max_region_size, max_total_size, max_regions, number_end, nobody}
-use Rattle.fam_model.specs.Lists.{is_some_and, drop_number, change_number}
+use Rattle.fam_model.specs.Lists.{is_some_and}
 use Rattle.fam_model.specs.Rows.{IsLawful, IsLawfulRegion, IsLawfulItem, AreApart, common_region, common_item, region_of, region_named, items_in, total_size, region_number, item_number, room_end}
-use Rattle.fam_rows.proofs.Edits.{Rise, All_unfound, All_without_any, All_kept, find_kept, find_grown, first_kept, first_grown, first_mapped, length_kept, sum_kept, AllPairs_mapped, AllPairs_weaker, rising, changed_one, change_is_map, find_mapped, rise_mapped, sum_changed, sum_same}
+use Rattle.fam_rows.proofs.Edits.{All_unfound, All_without_any, All_kept, find_kept, find_grown, first_kept, first_grown, first_mapped, length_kept, sum_kept, AllPairs_mapped, AllPairs_weaker, rising, changed_one, change_is_map, find_mapped, rise_mapped, sum_changed, sum_same}
 use Rattle.fam_rows.proofs.Places.{rises}
 use Rattle.fam_rows.proofs.Searches.{passes_found}
 use Rattle.fam_rows.proofs.Standing.{three_parts, four_parts, five_parts, value_tested, nothing_there, differ, region_is, region_stands, item_stands, item_stays}

@@ -1,8 +1,7 @@
 -- A change that serves a request is lawful.
-use Rattle.std.proofs.Common.{◌≡◌, ◌≢◌, ℕ, ◌+◌, ◌-◌, ◌<◌, ◌≤◌, Bool, true, false, cond, eqb, ltb, leb, List, [], ◌∷◌, length, Option, Some, None, is_none, is_some, inl, inr, refl, sym, ap, ◌∙◌, subst, arith}
+use Rattle.std.proofs.Common.{◌≡◌, ℕ, ◌+◌, ◌-◌, ◌<◌, ◌≤◌, Bool, true, false, cond, eqb, ltb, leb, List, length, Option, Some, None, is_none, is_some, refl, sym, ap, ◌∙◌, subst, arith}
 use mathlib.Core.Bool.{not, ◌&&◌}
-use Rattle.std.specs.List.{find}
-use Rattle.std.proofs.lemmas.Bool.{false≢true, cases_Bool, and_from, and_parts, eq-eqb, ne_eqb, eqb-true, ltb-false, leb-false, lt-ltb, le-leb, not-false, not_from_false}
+use Rattle.std.proofs.lemmas.Bool.{and_from, eq-eqb, ne_eqb, eqb-true, ltb-false, leb-false, lt-ltb, le-leb, not-false, not_from_false}
 use Rattle.fam_base.specs.Name.{is_good_name}
 use Rattle.fam_base.specs.declared.error.FamError.{FamError}
 use Rattle.fam_base.specs.declared.naming.Who.{Who}
@@ -19,7 +18,7 @@ use Rattle.fam_model.specs.declared.rows.Rows.{Rows}
 use Rattle.fam_model.specs.Directory.{first_case, error_or, refusal, may_lie, change_at, is_other, cuts_item, answer}
 use Rattle.fam_model.specs.Lawful.{is_lawful_change, is_good_row, is_next_number, is_common}
 use Rattle.fam_model.specs.Limits.{max_region_size, max_total_size, max_regions, max_items, number_end, nobody}
-use Rattle.fam_model.specs.Lists.{is_some_and, when, ◌>>=◌}
+use Rattle.fam_model.specs.Lists.{is_some_and}
 use Rattle.fam_model.specs.MetaStep.{told_change, told_base}
 use Rattle.fam_model.specs.Same.{same_reply}
 use Rattle.fam_model.specs.Rows.{IsLawful, region_named, item_named, total_size, fits, common_region, common_item, region_of, item_of, region_number, item_number, region_owner, item_owner}

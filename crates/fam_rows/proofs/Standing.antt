@@ -1,7 +1,7 @@
 -- Rows stay lawful where what they stand on stays.
-use Rattle.std.proofs.Common.{◌≡◌, ◌≢◌, ℕ, ◌+◌, ◌<◌, ◌≤◌, Bool, true, false, eqb, ltb, leb, List, [], ◌∷◌, ◌++◌, length, get_or, Option, Some, None, is_none, is_some, inl, inr, refl, sym, ap, ◌∙◌, subst, arith}
-use mathlib.Core.Bool.{not, ◌&&◌}
-use Rattle.std.specs.List.{All, find}
+use Rattle.std.proofs.Common.{◌≡◌, ◌≢◌, ℕ, ◌≤◌, Bool, true, false, eqb, List, Option, Some, None, is_none, refl, sym, ap, ◌∙◌, arith}
+use mathlib.Core.Bool.{◌&&◌}
+use Rattle.std.specs.List.{find}
 use Rattle.std.specs.Str.{bytes_eq}
 use Rattle.std.proofs.lemmas.Bool.{false≢true, and_parts}
 use Rattle.std.proofs.lemmas.Slice.Eq.{bytes_eq-Decides}
@@ -9,8 +9,8 @@ use Rattle.fam_model.specs.declared.rows.RegionRow.{RegionRow}
 use Rattle.fam_model.specs.declared.rows.ItemRow.{ItemRow}
 use Rattle.fam_model.specs.declared.rows.Rows.{Rows}
 use Rattle.fam_model.specs.Lists.{is_some_and, when, ◌>>=◌}
-use Rattle.fam_model.specs.Rows.{IsLawful, IsLawfulRegion, IsLawfulItem, region_of, region_number, item_number, room_end}
-use Rattle.fam_rows.proofs.Searches.{find_number_is, All_found}
+use Rattle.fam_model.specs.Rows.{IsLawfulRegion, IsLawfulItem, region_of, region_number, room_end}
+use Rattle.fam_rows.proofs.Searches.{find_number_is}
 
 -- the parts of tests in a row
 pub three_parts : (a b c : Bool) → (a && b && c) ≡ true → (a ≡ true) × (b ≡ true) × (c ≡ true)

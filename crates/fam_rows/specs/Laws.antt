@@ -1,8 +1,7 @@
 -- Laws of the directory's rows.
-use Rattle.std.specs.Prelude.{◌≡◌, ℕ, ◌+◌, ◌<◌, ◌≤◌, All, Bool, false, Option, Some, None, IsSome, IsTrue}
+use Rattle.std.specs.Prelude.{◌≡◌, ℕ, ◌<◌, ◌≤◌, All, false, Some, None, IsSome, IsTrue}
 use Rattle.fam_base.specs.declared.naming.Who.{Who}
 use Rattle.fam_model.specs.declared.rows.RegionRow.{RegionRow}
-use Rattle.fam_model.specs.declared.rows.ItemRow.{ItemRow}
 use Rattle.fam_model.specs.declared.rows.Rows.{Rows}
 use Rattle.fam_model.specs.declared.request.Request.{Request}
 use Rattle.fam_model.specs.declared.request.Request.TheVariants as request
