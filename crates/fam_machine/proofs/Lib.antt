@@ -11,3 +11,4 @@ pub mod States
 pub mod Replies
 pub mod Opening
 pub mod Members
+pub mod Taking

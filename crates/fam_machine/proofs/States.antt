@@ -96,11 +96,11 @@ if_some true o y e = (refl, e)
 if_some false o y e = absurd (none-some y e)
 
 -- what a call in its turn has
-record IsTurn (p : ProgramState) (asked : Option Call) : Type 0 where
-  bound : p.next_call < number_end
-  shaped : is_some_and asked is_shaped ≡ true
+pub record IsTurn (p : ProgramState) (asked : Option Call) : Type 0 where
+  pub bound : p.next_call < number_end
+  pub shaped : is_some_and asked is_shaped ≡ true
 
-in_turn : (p : ProgramState) (call : ℕ) (asked : Option Call) → (is_running p.standing && is_next p call && is_idle p.started && is_some_and asked is_shaped) ≡ true → IsTurn p asked
+pub in_turn : (p : ProgramState) (call : ℕ) (asked : Option Call) → (is_running p.standing && is_next p call && is_idle p.started && is_some_and asked is_shaped) ≡ true → IsTurn p asked
 in_turn p call asked e =
     let tests = four (is_running p.standing) (is_next p call) (is_idle p.started) (is_some_and asked is_shaped) e in
     record { bound = next_bound p call tests.0; shaped = tests.1 }

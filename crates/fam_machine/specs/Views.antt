@@ -1,11 +1,18 @@
 -- What contracts see of the machine.
-use Rattle.std.specs.Prelude.{ℕ, Bool, List, map, Option, Some, None}
+use Rattle.std.specs.Prelude.{ℕ, Bool, true, false, List, map, Option, Some, None}
 use Rattle.std.specs.Option.{option_map, option_map_or}
 use Rattle.fam_model.specs.declared.change.Change.{Change}
 use Rattle.fam_model.specs.declared.event.What.{What}
+use Rattle.fam_model.specs.declared.event.What.TheVariants as what
 use Rattle.fam_model.specs.declared.rows.Rows.{Rows}
 use Rattle.fam_model.specs.declared.state.ProgramState.{ProgramState}
+use Rattle.fam_model.specs.declared.service.Service.{Service}
 use Rattle.fam_model.specs.declared.state.State.{State}
+use Rattle.fam_model.specs.ContextStep.{answer_step, open_step, fence_step, quiet_step, close_step, wait_step}
+use Rattle.fam_model.specs.EndStep.{arrive_step, leave_step, crash_step}
+use Rattle.fam_model.specs.IssueStep.{issue_step}
+use Rattle.fam_model.specs.PieceStep.{lose_step}
+use Rattle.fam_model.specs.RefusedStep.{refused_step}
 use Rattle.fam_model.specs.Directory.{after, memory_after, Memory}
 use Rattle.fam_model.specs.Limits.{service_limits}
 use Rattle.fam_model.specs.Lists.{◌>>=◌, is_some_and}
@@ -52,3 +59,48 @@ effect_at state pe call made = program_of state pe >>= λ p. effect service_limi
 -- the rule that stands over an event of the program of a number
 abbrev pub rule_at : State → ℕ → ℕ → What → ℕ
 rule_at state pe call made = option_map_or (λ p. rule_of p call made) (program_of state pe) 1
+
+-- events of which the barrier hears
+
+-- a program arrives, leaves or crashes
+abbrev pub is_of_member : What → Bool
+is_of_member what.Arrive = true
+is_of_member what.Leave = true
+is_of_member what.Crash = true
+is_of_member _ = false
+
+-- the step of the program
+abbrev pub member_step_of : ℕ → ProgramState → What → Option ProgramState
+member_step_of round p what.Arrive = arrive_step round p
+member_step_of round p what.Leave = leave_step p
+member_step_of round p _ = crash_step p
+
+-- the rule that stands over it
+abbrev pub member_rule : What → ℕ
+member_rule what.Arrive = 10
+member_rule what.Leave = 11
+member_rule _ = 1
+
+-- events that change one program alone
+
+-- neither a call on the directory, nor a piece, nor one of which the barrier hears
+abbrev pub is_plain : What → Bool
+is_plain (what.Meta asked given) = false
+is_plain (what.Piece piece given) = false
+is_plain what.Arrive = false
+is_plain what.Leave = false
+is_plain what.Crash = false
+is_plain _ = true
+
+-- the step of the program; none for other events
+abbrev pub plain_step : Service → Rows → ℕ → ProgramState → ℕ → What → Option ProgramState
+plain_step service rows round p call (what.Issue asked given) = issue_step service p asked given
+plain_step service rows round p call (what.Answer given) = answer_step p.started round p given
+plain_step service rows round p call (what.OpenContext context) = open_step p context
+plain_step service rows round p call (what.CloseContext context given) = close_step p context given
+plain_step service rows round p call (what.Fence context) = fence_step p context
+plain_step service rows round p call (what.Quiet context given) = quiet_step p context given
+plain_step service rows round p call (what.Wait context named given) = wait_step p context named given
+plain_step service rows round p call (what.Lose piece) = lose_step p call piece
+plain_step service rows round p call (what.Refused asked error doubt) = refused_step service_limits rows round p asked error doubt
+plain_step service rows round p call _ = None

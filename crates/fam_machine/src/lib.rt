@@ -8,6 +8,7 @@ mod error;
 mod memory;
 mod meta;
 mod parts;
+mod plain;
 mod refused;
 
 pub use error::StepError;
