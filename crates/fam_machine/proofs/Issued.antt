@@ -24,9 +24,9 @@ use Rattle.fam_model.specs.Lists.{◌>>=◌, when}
 use Rattle.fam_model.specs.Pieces.{pieces, plan_kind}
 use Rattle.fam_model.specs.Programs.{item_slot, is_open, open_context, counted}
 use Rattle.fam_model.specs.Shape.{is_shaped, is_shaped_data, is_context}
-use Rattle.fam_machine.specs.Sound.{IsKnown, IsSoundPiece, IsSoundOperation, IsSoundContext, IsSoundSlot, HoldsSound}
+use Rattle.fam_machine.specs.Sound.{IsKnown, IsSoundPiece, IsSoundOperation, IsSoundContext, IsSoundSlot, HoldsSound, may_have, piece_extent}
 use Rattle.fam_machine.proofs.Lists.{bind_some, when_some, both_true, All-at}
-use Rattle.fam_machine.proofs.Planned.{MayBePlanned, pieces_sound, pieces_paired}
+use Rattle.fam_machine.proofs.Planned.{MayBePlanned, pieces_sound, pieces_may, pieces_paired}
 use Rattle.fam_machine.proofs.Programs.{IsNext, counted_next, open_context_sound}
 
 -- where no case of a list holds, none of its front does
@@ -72,6 +72,8 @@ new_sound : (rows : Rows) (service : Service) (call epoch : ℕ) (op : DataOp) (
 new_sound rows service call epoch op blocking items may =
     record {
       inside = All-map (λ m. IsSoundPiece rows m.piece) left_piece (pieces service op items.0 items.1) (pieces_sound rows service op items.0 items.1 may);
+      kinds = All-map (λ extent. IsTrue (may_have (plan_kind op) extent.0)) piece_extent (map left_piece (pieces service op items.0 items.1))
+          (All-map (λ m. IsTrue (may_have (plan_kind op) m.piece.kind)) left_piece (pieces service op items.0 items.1) (pieces_may service op items.0 items.1));
       paired = pieces_paired service op items.0 items.1;
     }
 

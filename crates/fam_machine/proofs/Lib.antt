@@ -12,3 +12,5 @@ pub mod Replies
 pub mod Opening
 pub mod Members
 pub mod Taking
+pub mod Collecting
+pub mod Coming

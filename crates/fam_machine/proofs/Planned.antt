@@ -1,6 +1,6 @@
 -- The pieces of an operation that is not refused lie inside its items.
 use Rattle.std.proofs.Common.{◌≡◌, ℕ, ◌+◌, ◌-◌, ◌<◌, ◌≤◌, suc, zero, List, [], ◌∷◌, ◌++◌, length, map, take, drop, Option, Some, None, Bool, true, false, sym, ap, subst, ◌∙◌, arith, rules, refl}
-use Rattle.std.specs.Prelude.{◌==◌, ◌&&◌, ◌||◌, not, nat_le, nat_lt, cond, All, slice_get, IsTrue, pos, ℤ}
+use Rattle.std.specs.Prelude.{◌==◌, ◌&&◌, ◌||◌, not, nat_le, nat_lt, cond, All, slice_get, IsTrue, pos, ℤ, if◌then◌else◌}
 use Rattle.std.specs.Bool.{beq}
 use Rattle.std.specs.List.{flat_map, list_any}
 use Rattle.std.specs.Ordering.{int_eq}
@@ -23,6 +23,8 @@ use Rattle.fam_model.specs.declared.piece.MarkedPiece.{MarkedPiece}
 use Rattle.fam_model.specs.declared.piece.Part.{Part}
 use Rattle.fam_model.specs.declared.piece.PieceKind.{PieceKind}
 use Rattle.fam_model.specs.declared.piece.PieceKind.TheVariants as kind
+use Rattle.fam_model.specs.declared.piece.PlanKind.{PlanKind}
+use Rattle.fam_model.specs.declared.piece.PlanKind.TheVariants as plan
 use Rattle.fam_model.specs.declared.piece.PlanPiece.{PlanPiece}
 use Rattle.fam_model.specs.declared.rows.Rows.{Rows}
 use Rattle.fam_model.specs.declared.service.Service.{Service}
@@ -32,11 +34,12 @@ use Rattle.fam_model.specs.Issue.{plan_refusals, ends_past, is_unsupported, is_u
 use Rattle.fam_model.specs.IssueStep.{left_piece}
 use Rattle.fam_model.specs.Limits.{max_bytes, max_elements}
 use Rattle.fam_model.specs.Operations.{is_copy}
+use Rattle.fam_model.specs.PieceStep.{is_read}
 use Rattle.fam_model.specs.Laws.{AreInRow}
 use Rattle.fam_model.specs.Pieces.{pieces, part, cuts, cut_where, all_cuts, is_border, reads, dealt, writes, copies, read_piece, write_piece, piece_at, elements, copied_to, plan_kind, moved, element_count, strided, indexed}
 use Rattle.fam_model.specs.Shape.{has_arguments, is_zero, is_shaped_data, is_slot}
 use Rattle.fam_model.proofs.Cuts.{exact}
-use Rattle.fam_machine.specs.Sound.{IsKnown, IsSoundPiece, is_sound_kind, ArePaired, piece_extent}
+use Rattle.fam_machine.specs.Sound.{IsKnown, IsSoundPiece, is_sound_kind, ArePaired, piece_extent, may_have}
 use Rattle.fam_machine.proofs.Lists.{both_true}
 
 -- parts
@@ -135,9 +138,9 @@ copies_sound rows service from to from_offset to_offset count known_from known_t
     (cut_where test 0 count) (All-weaker (EndsBy (0 + count)) (EndsBy count) (λ p by. omega arith) (cut_where test 0 count) (in_row_ends 0 (0 + count) (cut_where test 0 count) (exact test 0 count).in_row))
 
 -- a write follows its read with as many bytes
-pair_behind : (read write : MarkedPiece) (extents : List (Bool × ℕ)) → (piece_extent write).0 ≡ false → (piece_extent write).1 ≡ (piece_extent read).1 → ArePaired extents → ArePaired (piece_extent read ∷ piece_extent write ∷ extents)
+pair_behind : (read write : MarkedPiece) (extents : List (PieceKind × ℕ)) → is_read (piece_extent write).0 ≡ false → (piece_extent write).1 ≡ (piece_extent read).1 → ArePaired extents → ArePaired (piece_extent read ∷ piece_extent write ∷ extents)
 pair_behind read write extents no_read same paired zero r w e f t = sym (ap (λ x. x.1) (same_Some _ w f)) ∙ same ∙ ap (λ x. x.1) (same_Some _ r e)
-pair_behind read write extents no_read same paired (suc zero) r w e f t = absurd (false≢true (sym no_read ∙ ap (λ x. x.0) (same_Some _ r e) ∙ t))
+pair_behind read write extents no_read same paired (suc zero) r w e f t = absurd (false≢true (sym no_read ∙ ap (λ (x : PieceKind × ℕ). is_read x.0) (same_Some _ r e) ∙ t))
 pair_behind read write extents no_read same paired (suc (suc j)) r w e f t = paired j r w e f t
 
 -- the pieces of a copy come in pairs
@@ -146,6 +149,47 @@ copied_pairs service from to from_offset to_offset [] = λ j r w e f t. absurd (
 copied_pairs service from to from_offset to_offset (p ∷ parts) =
     pair_behind (left_piece (read_piece service from (part (from_offset + p.offset) p.n))) (left_piece (write_piece service to (part (to_offset + p.offset) p.n) [])) _ refl refl
     (copied_pairs service from to from_offset to_offset parts)
+
+-- what pieces do
+
+-- all pieces do what an operation does that gives this back
+abbrev AllMay : PlanKind → List PlanPiece → Type 0
+AllMay given ps = All (λ p. IsTrue (may_have given p.kind)) ps
+
+reads_may : (service : Service) (target : Descriptor) (parts : List Part) → AllMay plan.Get (map (read_piece service target) parts)
+reads_may service target parts =
+    All-map (λ p. IsTrue (may_have plan.Get p.kind)) (read_piece service target) parts (λ k d lt. refl)
+
+dealt_may : (service : Service) (target : Descriptor) (parts : List Part) (bytes : List ℕ) → AllMay plan.Put (dealt service target parts bytes)
+dealt_may service target [] bytes = All-nil (λ p. IsTrue (may_have plan.Put p.kind))
+dealt_may service target (p ∷ parts) bytes =
+    All-cons (λ p. IsTrue (may_have plan.Put p.kind)) (write_piece service target p (take p.n bytes)) (dealt service target parts (drop p.n bytes)) refl
+    (dealt_may service target parts (drop p.n bytes))
+
+copied_may : (service : Service) (from to : Descriptor) (from_offset to_offset : ℕ) (parts : List Part) → AllMay plan.Copy (flat_map (copied_part service from to from_offset to_offset) parts)
+copied_may service from to from_offset to_offset [] = All-nil (λ p. IsTrue (may_have plan.Copy p.kind))
+copied_may service from to from_offset to_offset (p ∷ parts) =
+    let may : PlanPiece → Type 0 = λ p. IsTrue (may_have plan.Copy p.kind) in
+    let read = read_piece service from (part (from_offset + p.offset) p.n) in
+    let write = write_piece service to (part (to_offset + p.offset) p.n) [] in
+    let others = flat_map (copied_part service from to from_offset to_offset) parts in
+    All-cons may read (write ∷ others) refl (All-cons may write others refl (copied_may service from to from_offset to_offset parts))
+
+atomic_may : (service : Service) (target : Descriptor) (o : Op) (w : Width) (a b : ℤ) (p : Part) (fetches : Bool) → AllMay (if fetches then plan.Fetch else plan.Put) (piece_at service target (kind.Atomic o w a b) p [] ∷ [])
+atomic_may service target o w a b p true = All-cons (λ p. IsTrue (may_have plan.Fetch p.kind)) (piece_at service target (kind.Atomic o w a b) p []) [] refl (All-nil (λ p. IsTrue (may_have plan.Fetch p.kind)))
+atomic_may service target o w a b p false = All-cons (λ p. IsTrue (may_have plan.Put p.kind)) (piece_at service target (kind.Atomic o w a b) p []) [] refl (All-nil (λ p. IsTrue (may_have plan.Put p.kind)))
+
+-- the pieces of an operation do what it does
+pub pieces_may : (service : Service) (op : DataOp) (from to : Descriptor) → AllMay (plan_kind op) (pieces service op from to)
+pieces_may service (data_op.Get item offset count) from to = reads_may service from (all_cuts service.unit from.base (part offset count ∷ []))
+pieces_may service (data_op.Put item offset bytes) from to = dealt_may service from (all_cuts service.unit from.base (part offset (length bytes) ∷ [])) bytes
+pieces_may service (data_op.Gather item first stride size count) from to = reads_may service from (all_cuts service.unit from.base (strided first stride size count))
+pieces_may service (data_op.Scatter item first stride size count bytes) from to = dealt_may service from (all_cuts service.unit from.base (strided first stride size count)) bytes
+pieces_may service (data_op.GatherIndex item size places) from to = reads_may service from (all_cuts service.unit from.base (indexed size places))
+pieces_may service (data_op.ScatterIndex item size places bytes) from to = dealt_may service from (all_cuts service.unit from.base (indexed size places)) bytes
+pieces_may service (data_op.Copy source from_offset target to_offset count) from to =
+    copied_may service from to from_offset to_offset (cut_where (λ k. is_border service.unit (from.base + from_offset) k || is_border service.unit (to.base + to_offset) k) 0 count)
+pieces_may service (data_op.Atomic item offset width o a b) from to = atomic_may service from o width a b (part offset (width_bytes width)) (is_fetching o)
 
 -- atomics
 

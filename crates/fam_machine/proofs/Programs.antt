@@ -27,7 +27,7 @@ use Rattle.fam_model.specs.Operations.{is_copy, has_left, is_pending, is_unrepor
 use Rattle.fam_model.specs.PieceStep.{bytes_found, marked, handed, is_refused, is_read, is_copy_read, with_answer, without_piece, piece_step, lose_step, may_answer, due_answer}
 use Rattle.fam_model.specs.Programs.{Placed, placed, context_of, operation_of, call_number, open_context, is_open, with_context, with_placed, with_operation, unreported_copy, counted, has_crashed, has_passed}
 use Rattle.fam_model.specs.Same.{same_reply}
-use Rattle.fam_machine.specs.Sound.{IsKnown, IsSoundPiece, IsSoundOperation, IsSoundContext, IsSoundSlot, HoldsSound, ArePaired, piece_extent}
+use Rattle.fam_machine.specs.Sound.{IsKnown, IsSoundPiece, IsSoundOperation, IsSoundContext, IsSoundSlot, HoldsSound, ArePaired, piece_extent, may_have}
 use Rattle.fam_machine.proofs.Lists.{bind_some, when_some, both_true, All-at, All-found, All-change_place, All-change_number, map-change_place}
 
 -- what a step of a program leaves, where its call number rises by n
@@ -94,6 +94,7 @@ pub with_answer_sound : (rows : Rows) (operation : Operation) (j : ℕ) (left : 
 with_answer_sound rows operation j left given bytes sound e few =
     record {
       inside = answered_pieces rows operation j left given bytes sound e few (is_copy_read operation left.piece) refl;
+      kinds = subst (All (λ extent. IsTrue (may_have operation.kind extent.0))) (sym (answered_extents operation j given bytes (is_copy_read operation left.piece))) sound.kinds;
       paired = λ copy. subst ArePaired (sym (answered_extents operation j given bytes (is_copy_read operation left.piece))) (sound.paired copy);
     }
 
@@ -113,12 +114,13 @@ pub without_piece_sound : (rows : Rows) (operation : Operation) (j : ℕ) (piece
 without_piece_sound rows operation j piece sound =
     record {
       inside = lost_pieces rows operation j sound (is_copy_read operation piece);
+      kinds = subst (All (λ extent. IsTrue (may_have operation.kind extent.0))) (sym (lost_extents operation j (is_copy_read operation piece))) sound.kinds;
       paired = λ copy. subst ArePaired (sym (lost_extents operation j (is_copy_read operation piece))) (sound.paired copy);
     }
 
 -- and so does telling its result
 as_reported_sound : (rows : Rows) (operation : Operation) → IsSoundOperation rows operation → IsSoundOperation rows (as_reported operation)
-as_reported_sound rows operation sound = record { inside = sound.inside; paired = sound.paired }
+as_reported_sound rows operation sound = record { inside = sound.inside; kinds = sound.kinds; paired = sound.paired }
 
 reported_sound : (rows : Rows) (context : Context) → IsSoundContext rows context → IsSoundContext rows (reported context)
 reported_sound rows context sound =

@@ -43,10 +43,10 @@ program_here parts pe p e = slice_get-map (λ (q : TrackedProgram). q.state) par
 pub turn_here : (parts : Parts) (pe call : ℕ) (made : What) (p : TrackedProgram) → slice_get parts.programs pe ≡ Some p → IsTrue (turn_at (state_of parts) pe call made) → is_in_turn p.state call made ≡ true
 turn_here parts pe call made p e t = subst (λ o. is_some_and o (λ p. is_in_turn p call made) ≡ true) (program_here parts pe p e) t
 
-effect_here : (parts : Parts) (pe call : ℕ) (made : What) (p : TrackedProgram) → slice_get parts.programs pe ≡ Some p → effect_at (state_of parts) pe call made ≡ effect service_limits (state_of parts) pe p.state call made
+pub effect_here : (parts : Parts) (pe call : ℕ) (made : What) (p : TrackedProgram) → slice_get parts.programs pe ≡ Some p → effect_at (state_of parts) pe call made ≡ effect service_limits (state_of parts) pe p.state call made
 effect_here parts pe call made p e = ap (λ o. o >>= λ p. effect service_limits (state_of parts) pe p call made) (program_here parts pe p e)
 
-rule_here : (parts : Parts) (pe call : ℕ) (made : What) (p : TrackedProgram) → slice_get parts.programs pe ≡ Some p → rule_at (state_of parts) pe call made ≡ rule_of p.state call made
+pub rule_here : (parts : Parts) (pe call : ℕ) (made : What) (p : TrackedProgram) → slice_get parts.programs pe ≡ Some p → rule_at (state_of parts) pe call made ≡ rule_of p.state call made
 rule_here parts pe call made p e = ap (λ o. option_map_or (λ p. rule_of p call made) o 1) (program_here parts pe p e)
 
 -- a program of a sound machine is sound

@@ -63,6 +63,7 @@ operation_kept old new keeps operation sound =
             sound_kind = s.sound_kind;
             few = s.few;
           }) operation.pieces sound.inside;
+      kinds = sound.kinds;
       paired = sound.paired;
     }
 

@@ -1,3 +1,4 @@
 pub mod Effects
 pub mod Sound
 pub mod Views
+pub mod Collected

@@ -1,5 +1,5 @@
 -- What holds of each state of the machine.
-use Rattle.std.specs.Prelude.{◌≡◌, ℕ, ◌+◌, ◌<◌, ◌≤◌, suc, Bool, true, ◌==◌, ◌&&◌, List, map, length, Option, Some, None, [], ◌∷◌, replicate, slice_get, IsTrue, All, ⊤, ℤ}
+use Rattle.std.specs.Prelude.{◌≡◌, ℕ, ◌+◌, ◌<◌, ◌≤◌, suc, Bool, true, false, not, ◌==◌, ◌&&◌, List, map, length, Option, Some, None, [], ◌∷◌, replicate, slice_get, IsTrue, All, ⊤, ℤ}
 use Rattle.fam_base.specs.declared.naming.Descriptor.{Descriptor}
 use Rattle.fam_base.specs.declared.naming.ItemId.{ItemId}
 use Rattle.fam_model.specs.declared.call.Op.{Op}
@@ -12,6 +12,8 @@ use Rattle.fam_model.specs.declared.piece.MarkedPiece.{MarkedPiece}
 use Rattle.fam_model.specs.declared.piece.Operation.{Operation}
 use Rattle.fam_model.specs.declared.piece.PieceKind.{PieceKind}
 use Rattle.fam_model.specs.declared.piece.PieceKind.TheVariants as kind
+use Rattle.fam_model.specs.declared.piece.PlanKind.{PlanKind}
+use Rattle.fam_model.specs.declared.piece.PlanKind.TheVariants as plan
 use Rattle.fam_model.specs.declared.piece.PlanPiece.{PlanPiece}
 use Rattle.fam_model.specs.declared.rows.ItemRow.{ItemRow}
 use Rattle.fam_model.specs.declared.rows.Rows.{Rows}
@@ -53,6 +55,11 @@ pub record IsKnown (rows : Rows) (descriptor : Descriptor) : Type 0 where
   pub room : descriptor.base + descriptor.size ≤ max_region_size
   pub size : (row : ItemRow) → item_of rows descriptor.item.0 ≡ Some row → row.size ≡ descriptor.size
 
+-- an atomic
+abbrev pub is_atomic : PieceKind → Bool
+is_atomic (kind.Atomic op width a b) = true
+is_atomic _ = false
+
 -- an atomic has an operation of its width, arguments of it, and its number of bytes
 abbrev pub is_sound_kind : PieceKind → ℕ → Bool
 is_sound_kind (kind.Atomic op width a b) n =
@@ -73,19 +80,27 @@ pub record IsSoundPiece (rows : Rows) (piece : PlanPiece) : Type 0 where
   pub sound_kind : IsTrue (is_sound_kind piece.kind piece.n)
   pub few : length piece.bytes ≤ piece.n
 
--- whether a piece reads, and how many bytes it has
-abbrev pub piece_extent : MarkedPiece → Bool × ℕ
-piece_extent marked = (is_read marked.piece.kind, marked.piece.n)
+-- what a piece does, and how many bytes it has
+abbrev pub piece_extent : MarkedPiece → PieceKind × ℕ
+piece_extent marked = (marked.piece.kind, marked.piece.n)
 
 -- what follows a read has as many bytes
-abbrev pub ArePaired : List (Bool × ℕ) → Type 0
+abbrev pub ArePaired : List (PieceKind × ℕ) → Type 0
 ArePaired extents =
-    (j : ℕ) (read write : Bool × ℕ) → slice_get extents j ≡ Some read → slice_get extents (suc j) ≡ Some write →
-    IsTrue read.0 → write.1 ≡ read.1
+    (j : ℕ) (read write : PieceKind × ℕ) → slice_get extents j ≡ Some read → slice_get extents (suc j) ≡ Some write →
+    IsTrue (is_read read.0) → write.1 ≡ read.1
 
--- the pieces of an operation lie inside their items; a copy's write has as many bytes as its read
+-- an operation that gives this back may have a piece that does this
+abbrev pub may_have : PlanKind → PieceKind → Bool
+may_have plan.Get piece = is_read piece
+may_have plan.Fetch piece = is_atomic piece
+may_have plan.Put piece = not (is_read piece)
+may_have plan.Copy piece = not (is_atomic piece)
+
+-- the pieces of an operation lie inside their items, and do what it does; a copy's write has as many bytes as its read
 pub record IsSoundOperation (rows : Rows) (operation : Operation) : Type 0 where
   pub inside : All (λ marked. IsSoundPiece rows marked.piece) operation.pieces
+  pub kinds : All (λ extent. IsTrue (may_have operation.kind extent.0)) (map piece_extent operation.pieces)
   pub paired : IsTrue (is_copy operation.kind) → ArePaired (map piece_extent operation.pieces)
 
 -- all operations of a context are sound

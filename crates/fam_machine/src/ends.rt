@@ -93,7 +93,9 @@ pub fn member(parts: &mut Parts, pe: usize, call: u64, what: &What) -> Result<()
     requires kind { IsTrue (is_of_member what.now) }
     ensures { Takes (effect_at (state_of parts.old) pe call what.now) (rule_at (state_of parts.old) pe call what.now) parts.old parts.new result }
 {
-    member_step(parts.programs.at_mut(pe), parts.round, what)?;
+    if let Err(error) = member_step(parts.programs.at_mut(pe), parts.round, what) {
+        return Err(error);
+    }
     if is_complete(parts.round, parts.programs.as_slice()) {
         parts.round += 1;
     }

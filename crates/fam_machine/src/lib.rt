@@ -8,6 +8,7 @@ mod error;
 mod memory;
 mod meta;
 mod parts;
+mod pieces;
 mod plain;
 mod refused;
 
