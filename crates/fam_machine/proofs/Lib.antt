@@ -14,3 +14,5 @@ pub mod Members
 pub mod Taking
 pub mod Collecting
 pub mod Coming
+pub mod Deciding
+pub mod Steps

@@ -22,15 +22,16 @@ use Rattle.fam_model.specs.Lists.{◌>>=◌, when, is_some_and}
 use Rattle.fam_model.specs.MetaStep.{meta_step, served_change, told_change, may_reply, changed}
 use Rattle.fam_model.specs.Programs.{program_of, with_program, with_member, round_after, is_complete, request_of, filled, counted, is_running}
 use Rattle.fam_model.specs.Rules.{rule_of}
+use Rattle.fam_model.specs.Shape.{is_shaped}
 use Rattle.fam_model.specs.Step.{effect}
-use Rattle.fam_model.specs.Turn.{is_in_turn, is_next, call_made}
+use Rattle.fam_model.specs.Turn.{is_in_turn, is_next, is_idle, call_made}
 use Rattle.fam_program.specs.declared.tracked.TrackedProgram.{TrackedProgram}
 use Rattle.fam_machine.specs.declared.error.StepError.{StepError}
 use Rattle.fam_machine.specs.declared.error.StepError.TheVariants as error
 use Rattle.fam_machine.specs.declared.parts.Parts.{Parts}
 use Rattle.fam_machine.specs.Effects.{Steps, Takes}
 use Rattle.fam_machine.specs.Sound.{IsSound, IsSoundProgram, IsOnTime}
-use Rattle.fam_machine.specs.Views.{state_of, states_of, rows_with, memory_with, turn_at, effect_at, rule_at, is_of_member, member_step_of, member_rule, is_plain, plain_step}
+use Rattle.fam_machine.specs.Views.{state_of, states_of, rows_with, memory_with, turn_at, effect_at, rule_at, is_of_member, member_step_of, member_rule, is_plain, makes_call, plain_step}
 use Rattle.fam_machine.proofs.Lists.{All-at, both_true}
 use Rattle.fam_machine.proofs.Rounds.{round_bound, next_bound, arrive_on_time, leave_on_time, crash_on_time}
 use Rattle.fam_machine.proofs.States.{in_turn}
@@ -194,3 +195,39 @@ round_can_rise parts pe call made p q sound e t turn step whole =
     (All-set (IsOnTime parts.round) (states_of parts.programs) pe q.state now before)
     in
     round_bound parts.round (states_of (slice_set parts.programs pe q)) all whole
+
+-- calls
+
+four_true : (a b c d : Bool) → (a && b && c && d) ≡ true → (c ≡ true) × (d ≡ true)
+four_true true true true true e = (refl, refl)
+four_true true true true false e = absurd (false≢true e)
+four_true true true false d e = absurd (false≢true e)
+four_true true false c d e = absurd (false≢true e)
+four_true false b c d e = absurd (false≢true e)
+
+-- what a call has at its turn
+pub record HasTurn (p : ProgramState) (made : What) : Type 0 where
+  pub number : p.next_call < number_end
+  pub idle : IsTrue (is_idle p.started)
+  pub shaped : is_some_and (call_made made) is_shaped ≡ true
+
+has_turn : (p : ProgramState) (call : ℕ) (made : What) → (is_running p.standing && is_next p call && is_idle p.started && is_some_and (call_made made) is_shaped) ≡ true → HasTurn p made
+has_turn p call made t =
+    let tests = four_true (is_running p.standing) (is_next p call) (is_idle p.started) (is_some_and (call_made made) is_shaped) t in
+    record { number = (in_turn p call (call_made made) t).bound; idle = tests.0; shaped = tests.1 }
+
+plain_turn : (p : ProgramState) (call : ℕ) (made : What) → is_plain made ≡ true → makes_call made ≡ true → is_in_turn p call made ≡ true → HasTurn p made
+plain_turn p call (what.Issue asked given) k m t = has_turn p call (what.Issue asked given) t
+plain_turn p call (what.OpenContext context) k m t = has_turn p call (what.OpenContext context) t
+plain_turn p call (what.CloseContext context given) k m t = has_turn p call (what.CloseContext context given) t
+plain_turn p call (what.Fence context) k m t = has_turn p call (what.Fence context) t
+plain_turn p call (what.Quiet context given) k m t = has_turn p call (what.Quiet context given) t
+plain_turn p call (what.Wait context named given) k m t = has_turn p call (what.Wait context named given) t
+plain_turn p call (what.Refused asked error doubt) k m t = has_turn p call (what.Refused asked error doubt) t
+plain_turn p call (what.Answer given) k m t = absurd (false≢true m)
+plain_turn p call (what.Lose piece) k m t = absurd (false≢true m)
+plain_turn p call made k m t = absurd (false≢true k)
+
+-- a call that changes one program alone, at its turn
+pub plain_turn_here : (parts : Parts) (pe call : ℕ) (made : What) (p : TrackedProgram) → slice_get parts.programs pe ≡ Some p → is_plain made ≡ true → IsTrue (turn_at (state_of parts) pe call made) → makes_call made ≡ true → HasTurn p.state made
+plain_turn_here parts pe call made p e k t m = plain_turn p.state call made k m (turn_here parts pe call made p e t)

@@ -2,3 +2,4 @@ pub mod Effects
 pub mod Sound
 pub mod Views
 pub mod Collected
+pub mod Issuing

@@ -1,7 +1,10 @@
 -- What contracts see of the machine.
-use Rattle.std.specs.Prelude.{ℕ, Bool, true, false, List, map, Option, Some, None}
+use Rattle.std.specs.Prelude.{◌≡◌, ℕ, Bool, Result, Ok, Err, nat_lt, true, false, List, map, Option, Some, None}
+use Rattle.std.specs.List.{enumerate_from}
 use Rattle.std.specs.Option.{option_map, option_map_or}
+use Rattle.fam_base.specs.declared.naming.Who.{Who}
 use Rattle.fam_model.specs.declared.change.Change.{Change}
+use Rattle.fam_model.specs.declared.event.Event.{Event}
 use Rattle.fam_model.specs.declared.event.What.{What}
 use Rattle.fam_model.specs.declared.event.What.TheVariants as what
 use Rattle.fam_model.specs.declared.rows.Rows.{Rows}
@@ -11,16 +14,19 @@ use Rattle.fam_model.specs.declared.state.State.{State}
 use Rattle.fam_model.specs.ContextStep.{answer_step, open_step, fence_step, quiet_step, close_step, wait_step}
 use Rattle.fam_model.specs.EndStep.{arrive_step, leave_step, crash_step}
 use Rattle.fam_model.specs.IssueStep.{issue_step}
-use Rattle.fam_model.specs.PieceStep.{lose_step}
+use Rattle.fam_model.specs.Opened.{new_program}
+use Rattle.fam_model.specs.PieceStep.{entry_number, lose_step}
 use Rattle.fam_model.specs.RefusedStep.{refused_step}
 use Rattle.fam_model.specs.Directory.{after, memory_after, Memory}
 use Rattle.fam_model.specs.Limits.{service_limits}
-use Rattle.fam_model.specs.Lists.{◌>>=◌, is_some_and}
+use Rattle.fam_model.specs.Lists.{◌>>=◌, is_some_and, find_number}
 use Rattle.fam_model.specs.Programs.{program_of}
-use Rattle.fam_model.specs.Rules.{rule_of}
-use Rattle.fam_model.specs.Step.{effect}
+use Rattle.fam_model.specs.Rules.{rule_of, broken_rule}
+use Rattle.fam_model.specs.Step.{effect, step}
 use Rattle.fam_model.specs.Turn.{is_in_turn}
 use Rattle.fam_program.specs.declared.tracked.TrackedProgram.{TrackedProgram}
+use Rattle.fam_machine.specs.declared.error.StepError.{StepError}
+use Rattle.fam_machine.specs.declared.error.StepError.TheVariants as error
 use Rattle.fam_machine.specs.declared.parts.Parts.{Parts}
 
 -- the programs of the definitions
@@ -104,3 +110,27 @@ plain_step service rows round p call (what.Wait context named given) = wait_step
 plain_step service rows round p call (what.Lose piece) = lose_step p call piece
 plain_step service rows round p call (what.Refused asked error doubt) = refused_step service_limits rows round p asked error doubt
 plain_step service rows round p call _ = None
+
+-- an event that makes a call
+abbrev pub makes_call : What → Bool
+makes_call (what.Piece piece given) = false
+makes_call (what.Answer given) = false
+makes_call (what.Lose piece) = false
+makes_call _ = true
+
+-- steps of the machine
+
+-- the machine took the step of the definitions; or there is none, and the least rule that the event breaks is told; or
+-- memory was wanting. In the last two cases it is as it was.
+abbrev pub IsStep : State → Event → State → Result Unit StepError → Type 0
+IsStep old event new (Ok _) = step service_limits old event ≡ Some new
+IsStep old event new (Err (error.Illegal rule)) = (broken_rule service_limits old event ≡ Some rule) × (new ≡ old)
+IsStep old event new (Err error.Memory) = new ≡ old
+
+-- the bytes of an item, where it is there
+abbrev pub bytes_of : State → ℕ → Option (List ℕ)
+bytes_of state item = option_map (λ entry. entry.1) (find_number entry_number item state.memory)
+
+-- a program for each user, of which the first ones are local
+abbrev pub new_programs : List Who → ℕ → List ProgramState
+new_programs whos local = map (λ entry. new_program entry.1 (nat_lt entry.0 local)) (enumerate_from 0 whos)

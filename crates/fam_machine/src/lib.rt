@@ -5,6 +5,8 @@ mod answers;
 mod contexts;
 mod ends;
 mod error;
+mod issue;
+mod machine;
 mod memory;
 mod meta;
 mod parts;
@@ -13,3 +15,4 @@ mod plain;
 mod refused;
 
 pub use error::StepError;
+pub use machine::Machine;
