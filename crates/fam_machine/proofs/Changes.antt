@@ -133,7 +133,7 @@ same_extents old new e le =
       next = le;
       items = λ n row lt f.
           let there = mapped_some item_extent (item_of old n) (item_extent row)
-              (extent_of n old.items ∙ ap (λ es. find (λ e. e.0 == n) es) (sym e) ∙ sym (extent_of n new.items) ∙ ap (λ o. option_map item_extent o) f) in
+          (extent_of n old.items ∙ ap (λ es. find (λ e. e.0 == n) es) (sym e) ∙ sym (extent_of n new.items) ∙ ap (λ o. option_map item_extent o) f) in
           (there.0, there.1, sym (ap (λ e. e.1) there.2));
     }
 
@@ -144,13 +144,16 @@ one_more_item old new added e number le =
       next = le;
       items = λ n row lt f.
           let other : (item_number added == n) ≡ false = grind (arith, nat_tests) in
-          let last : find (λ x. item_number x == n) (added ∷ []) ≡ None = ap (λ b. cond b (Some added) None) other in
-          (row, find_number-find item_number n old.items
-           ∙ sym (or_none (find (λ x. item_number x == n) old.items))
-           ∙ ap (λ o. option_or (find (λ x. item_number x == n) old.items) o) (sym last)
-           ∙ sym (find-append (λ x. item_number x == n) old.items (added ∷ []))
-           ∙ sym (find_number-find item_number n (old.items ++ added ∷ []))
-           ∙ ap (λ xs. find_number item_number n xs) (sym e) ∙ f, refl);
+          let last : find (λ x. item_number x == n) (added ∷ []) ≡ None = ap (λ b. cond b (Some added) None) other in (
+            row,
+            find_number-find item_number n old.items
+                ∙ sym (or_none (find (λ x. item_number x == n) old.items))
+                ∙ ap (λ o. option_or (find (λ x. item_number x == n) old.items) o) (sym last)
+                ∙ sym (find-append (λ x. item_number x == n) old.items (added ∷ []))
+                ∙ sym (find_number-find item_number n (old.items ++ added ∷ []))
+                ∙ ap (λ xs. find_number item_number n xs) (sym e) ∙ f,
+            refl,
+          );
     }
 
 first_of_five : (a b c d e : Bool) → (a && b && c && d && e) ≡ true → a ≡ true

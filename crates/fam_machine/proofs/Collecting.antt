@@ -150,7 +150,6 @@ ok_with : (operation : Operation) (j : ℕ) (piece : PlanPiece) (found : List �
 ok_with operation j piece found true e = ap (λ reads. if reads then with_answer operation j piece answer.Ok found else with_answer operation j piece (answer.Data found) found) e
 ok_with operation j piece found false e = unread operation j piece answer.Ok [] found e
 
-
 data_with : (operation : Operation) (j : ℕ) (piece : PlanPiece) (bytes found : List ℕ) (reads : Bool) → is_copy_read operation piece ≡ reads → is_copy operation.kind ≡ false → answered_with operation j piece (answer.Data bytes) ≡ with_answer operation j piece (answer.Data bytes) found
 data_with operation j piece bytes found true e f = absurd (false≢true (sym f ∙ (both_true (is_copy operation.kind) (is_read piece.kind) e).0))
 data_with operation j piece bytes found false e f =

@@ -173,11 +173,12 @@ not_due_with p j answers next (Some at) e = here (slice_get at.operation.pieces 
 
 -- a piece that may not come breaks rule 4
 pub not_due : (parts : Parts) (pe call j : ℕ) (p : TrackedProgram) (given : PieceAnswer) → slice_get parts.programs pe ≡ Some p → is_due p.state call j ≡ false → (effect_at (state_of parts) pe call (what.Piece j given) ≡ None) × (rule_at (state_of parts) pe call (what.Piece j given) ≡ 4)
-not_due parts pe call j p given e fails =
-    (no_step parts pe call j p given e
-     (not_due_with p.state j (λ at left. may_answer service_limits (due_answer parts.rows parts.memory p.state.who at.operation.kind left.piece) given)
-     (λ at left. with_placed p.state at (with_answer at.operation j left.piece given (bytes_found parts.memory left.piece))) (placed p.state call) fails),
-     rule_here parts pe call (what.Piece j given) p e ∙ ap (λ b. if b then 5 else 4) fails)
+not_due parts pe call j p given e fails = (
+  no_step parts pe call j p given e
+      (not_due_with p.state j (λ at left. may_answer service_limits (due_answer parts.rows parts.memory p.state.who at.operation.kind left.piece) given)
+      (λ at left. with_placed p.state at (with_answer at.operation j left.piece given (bytes_found parts.memory left.piece))) (placed p.state call) fails),
+  rule_here parts pe call (what.Piece j given) p e ∙ ap (λ b. if b then 5 else 4) fails,
+)
 
 -- one that may not have its answer breaks rule 5
 pub not_answered : (parts : Parts) (pe call j : ℕ) (p : TrackedProgram) (given_back : PlanKind) (piece : PlanPiece) (given : PieceAnswer) → Finds parts pe call j p given_back piece → may_answer service_limits (due_answer parts.rows parts.memory p.state.who given_back piece) given ≡ false → (effect_at (state_of parts) pe call (what.Piece j given) ≡ None) × (rule_at (state_of parts) pe call (what.Piece j given) ≡ 5)
@@ -188,9 +189,10 @@ not_answered parts pe call j p given_back piece given found fails =
     let r = same_piece parts pe call j p given_back piece found due in
     let may_not : may_answer service_limits (due_answer parts.rows parts.memory p.state.who at.operation.kind due.left.piece) given ≡ false =
     (λ i. may_answer service_limits (due_answer parts.rows parts.memory p.state.who (k i) (r i)) given) ∙ fails
-    in
-    (no_step parts pe call j p given found.program
-     (ap (λ o. o >>= λ at. slice_get at.operation.pieces j >>= λ left. when (may_come at.context at.operation j && may_answer service_limits (due_answer parts.rows parts.memory p.state.who at.operation.kind left.piece) given) (with_placed p.state at (with_answer at.operation j left.piece given (bytes_found parts.memory left.piece)))) due.there
-      ∙ ap (λ o. o >>= λ left. when (may_come at.context at.operation j && may_answer service_limits (due_answer parts.rows parts.memory p.state.who at.operation.kind left.piece) given) (with_placed p.state at (with_answer at.operation j left.piece given (bytes_found parts.memory left.piece)))) due.left_there
-      ∙ (λ i. when (due.comes i && may_not i) (with_placed p.state at (with_answer at.operation j due.left.piece given (bytes_found parts.memory due.left.piece))))),
-     rule_here parts pe call (what.Piece j given) p found.program ∙ ap (λ b. if b then 5 else 4) found.due)
+    in (
+      no_step parts pe call j p given found.program
+          (ap (λ o. o >>= λ at. slice_get at.operation.pieces j >>= λ left. when (may_come at.context at.operation j && may_answer service_limits (due_answer parts.rows parts.memory p.state.who at.operation.kind left.piece) given) (with_placed p.state at (with_answer at.operation j left.piece given (bytes_found parts.memory left.piece)))) due.there
+          ∙ ap (λ o. o >>= λ left. when (may_come at.context at.operation j && may_answer service_limits (due_answer parts.rows parts.memory p.state.who at.operation.kind left.piece) given) (with_placed p.state at (with_answer at.operation j left.piece given (bytes_found parts.memory left.piece)))) due.left_there
+          ∙ (λ i. when (due.comes i && may_not i) (with_placed p.state at (with_answer at.operation j due.left.piece given (bytes_found parts.memory due.left.piece))))),
+      rule_here parts pe call (what.Piece j given) p found.program ∙ ap (λ b. if b then 5 else 4) found.due,
+    )

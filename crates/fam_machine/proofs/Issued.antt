@@ -54,9 +54,10 @@ pub targets_known : (rows : Rows) (p : ProgramState) (op : DataOp) (items : Desc
 targets_known rows p op items holds e =
     let from = bind_some (item_slot p (slot_of op)) _ items e in
     let to = bind_some (item_slot p (second_slot_of op)) _ items from.2 in
-    let same = same_Some _ items to.2 in
-    (subst (IsKnown rows) (ap (λ (x : Descriptor × Descriptor). x.0) same) (slot_known rows p (slot_of op) from.0 holds from.1),
-     subst (IsKnown rows) (ap (λ (x : Descriptor × Descriptor). x.1) same) (slot_known rows p (second_slot_of op) to.0 holds to.1))
+    let same = same_Some _ items to.2 in (
+      subst (IsKnown rows) (ap (λ (x : Descriptor × Descriptor). x.0) same) (slot_known rows p (slot_of op) from.0 holds from.1),
+      subst (IsKnown rows) (ap (λ (x : Descriptor × Descriptor). x.1) same) (slot_known rows p (second_slot_of op) to.0 holds to.1),
+    )
 
 -- a data call that is not refused has a plan
 pub not_refused : (service : Service) (p : ProgramState) (c : ℕ) (op : DataOp) (items : Descriptor × Descriptor) → targets p op ≡ Some items → first_case (data_refusals service p c op) ≡ None → first_case (plan_refusals op items.0 items.1) ≡ None

@@ -46,5 +46,5 @@ pub found_tells : (rows : Rows) (who : Who) (asked : Request) (given told : Repl
 found_tells rows who asked given told none e =
     told_so rows who asked given (same_reply given told)
     (ap (λ o. option_map_or (same_reply given) (unchanging_reply o rows asked) (is_some (told_change rows who asked given))) none
-     ∙ ap (λ o. option_map_or (same_reply given) o (is_some (told_change rows who asked given))) e)
+    ∙ ap (λ o. option_map_or (same_reply given) o (is_some (told_change rows who asked given))) e)
     (found_nothing_changes rows who asked given told e)

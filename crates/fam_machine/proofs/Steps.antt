@@ -2,10 +2,12 @@
 use Rattle.std.proofs.Common.{◌≡◌, ℕ, ◌+◌, ◌<◌, List, [], ◌∷◌, ◌++◌, length, map, take, get_or, Option, Some, None, Bool, true, false, Result, Ok, Err, sym, ap, subst, ◌∙◌, refl, arith}
 use Rattle.std.specs.Prelude.{if◌then◌else◌, is_some, nat_lt, slice_get, IsTrue}
 use Rattle.std.specs.List.{enumerate_from}
-use Rattle.std.specs.Option.{option_map, option_map_or}
+use Rattle.std.specs.Option.{option_map, option_map_or, option_copied}
+use denote.Bor.{Bor}
+use Rattle.fam_model.specs.Opened.{new_program}
 use Rattle.std.proofs.lemmas.Bool.{false≢true}
 use Rattle.std.proofs.lemmas.Option.{none-some, same_Some, slice_get-map, slice_get_within}
-use Rattle.std.proofs.lemmas.List.{length-map}
+use Rattle.std.proofs.lemmas.List.{length-map, length-take-le, take_more, map-append}
 use Rattle.fam_base.specs.declared.naming.ItemId.{ItemId}
 use Rattle.fam_base.specs.declared.naming.Who.{Who}
 use Rattle.fam_model.specs.declared.event.Event.{Event}
@@ -27,7 +29,7 @@ use Rattle.fam_machine.specs.declared.error.StepError.TheVariants as error
 use Rattle.fam_machine.specs.declared.parts.Parts.{Parts}
 use Rattle.fam_machine.specs.Effects.{Takes}
 use Rattle.fam_machine.specs.Sound.{IsSound, HasModes}
-use Rattle.fam_machine.specs.Views.{state_of, states_of, turn_at, effect_at, rule_at, IsStep, bytes_of}
+use Rattle.fam_machine.specs.Views.{state_of, states_of, turn_at, effect_at, rule_at, IsStep, bytes_of, new_programs}
 use Rattle.fam_machine.proofs.Bytes.{entry_row, row_entry}
 use Rattle.fam_machine.proofs.States.{sound_step}
 
@@ -105,3 +107,32 @@ pub item_there : (state : State) (item : ℕ) → IsSound state → is_some (byt
 item_there state item sound =
     some_map (λ (entry : ItemId × List ℕ). entry.1) (find_number entry_number item state.memory)
     ∙ both_there state item (find_number entry_number item state.memory) (item_of state.rows item) refl refl sound
+
+-- what is lent is there where it is copied
+pub copied_some : {X : Type 0} (o : Option (Bor X)) → is_some o ≡ is_some (option_copied o)
+copied_some None = refl
+copied_some (Some x) = refl
+
+-- programs
+
+enumerate_more : {A : Type 0} (n : ℕ) (xs : List A) (x : A) → enumerate_from n (xs ++ x ∷ []) ≡ enumerate_from n xs ++ (n + length xs, x) ∷ []
+enumerate_more n [] x = ap (λ k. (k, x) ∷ []) (omega arith)
+enumerate_more {A} n (y ∷ xs) x =
+    let later : enumerate_from (n + 1) (xs ++ x ∷ []) ≡ enumerate_from (n + 1) xs ++ (n + 1 + length xs, x) ∷ [] = enumerate_more (n + 1) xs x in
+    let same : n + 1 + length xs ≡ n + length (y ∷ xs) = omega arith in
+    ap (λ zs. (n, y) ∷ zs) (later ∙ ap (λ k. enumerate_from (n + 1) xs ++ (k, x) ∷ []) same)
+
+-- one program more
+pub one_more_program : (whos : List Who) (local pe : ℕ) (default : Who) (programs : List TrackedProgram) (p : TrackedProgram) → pe < length whos → states_of programs ≡ new_programs (take pe whos) local → p.state ≡ new_program (get_or whos pe default) (nat_lt pe local) → states_of (programs ++ p ∷ []) ≡ new_programs (take (pe + 1) whos) local
+one_more_program whos local pe default programs p inside before new =
+    let who = get_or whos pe default in
+    let rest = take pe whos in
+    let long : length rest ≡ pe = length-take-le pe whos (omega arith) in
+    let place : 0 + length rest ≡ pe = omega arith in
+    let whole : take (pe + 1) whos ≡ rest ++ who ∷ [] = take_more whos pe default inside in
+    map-append (λ (q : TrackedProgram). q.state) programs (p ∷ [])
+    ∙ (λ i. before i ++ new i ∷ [])
+    ∙ ap (λ k. new_programs rest local ++ new_program who (nat_lt k local) ∷ []) (sym place)
+    ∙ sym (map-append (λ (entry : ℕ × Who). new_program entry.1 (nat_lt entry.0 local)) (enumerate_from 0 rest) ((0 + length rest, who) ∷ []))
+    ∙ ap (map (λ (entry : ℕ × Who). new_program entry.1 (nat_lt entry.0 local))) (sym (enumerate_more 0 rest who))
+    ∙ ap (λ ws. new_programs ws local) (sym whole)

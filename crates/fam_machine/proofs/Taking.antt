@@ -160,10 +160,11 @@ member_taken parts pe call made p q complete e t step whole =
 
 -- and where there is none
 pub member_fails : (parts : Parts) (pe call : ℕ) (made : What) (p q : TrackedProgram) (fault : StepError) → slice_get parts.programs pe ≡ Some p → is_of_member made ≡ true → Steps (member_step_of parts.round p.state made) (member_rule made) p q (Err fault) → Takes (effect_at (state_of parts) pe call made) (rule_at (state_of parts) pe call made) parts (with_one parts pe q) (Err fault)
-member_fails parts pe call made p q (error.Illegal broken) e t s =
-    (effect_here parts pe call made p e ∙ member_effect (state_of parts) pe p.state call made t ∙ ap (option_map (with_member (state_of parts) pe)) s.0,
-     s.1 ∙ sym (rule_here parts pe call made p e ∙ member_rule_of p.state call made t),
-     with_same parts pe p q e s.2)
+member_fails parts pe call made p q (error.Illegal broken) e t s = (
+  effect_here parts pe call made p e ∙ member_effect (state_of parts) pe p.state call made t ∙ ap (option_map (with_member (state_of parts) pe)) s.0,
+  s.1 ∙ sym (rule_here parts pe call made p e ∙ member_rule_of p.state call made t),
+  with_same parts pe p q e s.2,
+)
 member_fails parts pe call made p q error.Memory e t s = with_same parts pe p q e s
 
 member_number : (p : ProgramState) (call : ℕ) (made : What) → is_of_member made ≡ true → is_in_turn p call made ≡ true → p.next_call < number_end

@@ -138,7 +138,7 @@ looked_up rows name region d lawful (Some told) f e =
     let row = bind_some (region_named rows region) _ told f in
     let item = bind_some (item_named rows (region_number row.0) name) _ told row.2 in
     let there : IsThere rows item.0 = found_holds (IsThere rows) _ (items_in rows (region_number row.0)) item.0 item.1
-        (All-filter _ (IsThere rows) rows.items (all_there rows lawful)) in
+    (All-filter _ (IsThere rows) rows.items (all_there rows lawful)) in
     let same : descriptor_of item.0 ≡ d = same_item d (descriptor_of item.0) (subst (λ r. same_reply (reply.Item d) r ≡ true) (sym (same_Some _ told item.2)) e) in
     subst (IsKnown rows) same (there_known rows item.0 lawful there)
 
@@ -238,20 +238,21 @@ item_next rows p slot given holds known = counted_next rows p holds
 
 -- what is told of an item that is allocated or looked up
 told_known : (rows : Rows) (who : Who) (asked : Request) (given : Reply) → IsLawful rows → may_reply rows who asked given ≡ true → (d : Descriptor) → given ≡ reply.Item d → ((name : List ℕ) (size mode : ℕ) (region : RegionId) → asked ≡ request.Allocate name size mode region → IsKnown (rows_with rows (told_change rows who asked given)) d) × ((name region : List ℕ) → asked ≡ request.Lookup name region → IsKnown (rows_with rows (told_change rows who asked given)) d)
-told_known rows who asked given lawful may d e =
-    ((λ name size mode region f.
+told_known rows who asked given lawful may d e = (
+  (λ name size mode region f.
       let now : may_reply rows who (request.Allocate name size mode region) (reply.Item d) ≡ true =
       subst (λ g. may_reply rows who (request.Allocate name size mode region) g ≡ true) e (subst (λ a. may_reply rows who a given ≡ true) f may)
       in
       subst (λ a. IsKnown (rows_with rows (told_change rows who a given)) d) (sym f)
       (subst (λ g. IsKnown (rows_with rows (told_change rows who (request.Allocate name size mode region) g)) d) (sym e)
       (allocate_known rows who name size mode region d lawful (refusal rows who (request.Allocate name size mode region)) now))),
-     (λ name region f.
+  (λ name region f.
       let now : may_reply rows who (request.Lookup name region) (reply.Item d) ≡ true =
       subst (λ g. may_reply rows who (request.Lookup name region) g ≡ true) e (subst (λ a. may_reply rows who a given ≡ true) f may)
       in
       subst (λ a. IsKnown (rows_with rows (told_change rows who a given)) d) (sym f)
-      (lookup_known rows name region d lawful (refusal rows who (request.Lookup name region)) now)))
+      (lookup_known rows name region d lawful (refusal rows who (request.Lookup name region)) now)),
+)
 
 -- the program after a call on the directory, by the request that it makes
 asked_next : (rows now : Rows) (p : ProgramState) (asked : MetaCall) (made : Request) (given : Reply) → IsLawful rows → HoldsSound now p → request_of p asked ≡ Some made → may_reply rows p.who made given ≡ true → rows_with rows (told_change rows p.who made given) ≡ now → IsNext now 1 p (filled (counted p) asked given)

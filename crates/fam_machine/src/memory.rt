@@ -95,7 +95,15 @@ pub fn serve(alloc: Global, memory: &mut Memory, piece: &PlanPiece)
 }
 
 /// The effect of an atomic.
-fn apply_atomic(alloc: Global, memory: &mut Memory, piece: &PlanPiece, op: Op, width: Width, a: i128, b: i128)
+fn apply_atomic(
+    alloc: Global,
+    memory: &mut Memory,
+    piece: &PlanPiece,
+    op: Op,
+    width: Width,
+    a: i128,
+    b: i128,
+)
     requires rising { IsStrictlyIncreasing (map steps.entry_number memory.old) }
     requires inside { piece.now.offset + piece.now.n ≤ length (steps.item_bytes memory.old piece.now.item.0) }
     requires atomic { IsSoundAtomic op width a b piece.now.n }

@@ -151,7 +151,14 @@ pub fn meta(
     let Some(request) = program.request_of(alloc, asked)? else {
         return Err(StepError::Illegal(2));
     };
-    answer(alloc, &mut parts.rows, &mut parts.memory, who, &request, given)?;
+    answer(
+        alloc,
+        &mut parts.rows,
+        &mut parts.memory,
+        who,
+        &request,
+        given,
+    )?;
     parts.programs.at_mut(pe).fill(asked, given);
     Ok(())
 }
