@@ -1,14 +1,12 @@
 -- What a piece leaves of memory.
-use Rattle.std.proofs.Common.{◌≡◌, ℕ, ◌+◌, ◌<◌, ◌≤◌, List, [], ◌∷◌, ◌++◌, map, length, take, drop, get_or, set, Option, Some, None, Bool, true, false, sym, ap, subst, ◌∙◌, refl, arith, lit≤}
-use Rattle.std.specs.Prelude.{◌&&◌, ◌==◌, All, slice_get, slice_set, IsTrue, find, ℤ, if◌then◌else◌}
+use Rattle.std.proofs.Common.{◌≡◌, ℕ, ◌+◌, ◌≤◌, List, [], ◌∷◌, map, length, set, Option, Some, None, Bool, true, false, sym, ap, subst, ◌∙◌, refl, arith, lit≤}
+use Rattle.std.specs.Prelude.{◌&&◌, ◌==◌, slice_get, slice_set, IsTrue, find, ℤ, if◌then◌else◌}
 use Rattle.std.specs.Option.{option_map, option_map_or}
-use Rattle.std.specs.List.{replace_range}
 use Rattle.std.specs.List.Sorted.{IsStrictlyIncreasing}
 use Rattle.std.proofs.lemmas.Bool.{false≢true}
 use Rattle.std.proofs.lemmas.Bool.Decides.{nat_tests}
-use Rattle.std.proofs.lemmas.Grind.{common_steps}
 use Rattle.std.proofs.lemmas.List.{map-set, set-get_or, length-append, length-take, length-drop}
-use Rattle.std.proofs.lemmas.Option.{none-some, same_Some, slice_get_within, get_or_from_slice_get}
+use Rattle.std.proofs.lemmas.Option.{get_or_from_slice_get}
 use Rattle.fam_base.specs.declared.naming.ItemId.{ItemId}
 use Rattle.fam_model.specs.declared.call.Op.{Op}
 use Rattle.fam_model.specs.declared.call.Width.{Width}
@@ -21,14 +19,14 @@ use Rattle.fam_model.specs.declared.reply.PieceAnswer.{PieceAnswer}
 use Rattle.fam_model.specs.declared.rows.ItemRow.{ItemRow}
 use Rattle.fam_model.specs.declared.rows.Rows.{Rows}
 use Rattle.fam_model.specs.declared.state.ProgramState.{ProgramState}
-use Rattle.fam_model.specs.Atomic.{bytes_of_number, bytes_after, width_bytes, is_supported, is_in_range}
+use Rattle.fam_model.specs.Atomic.{bytes_after, width_bytes, is_supported, is_in_range}
 use Rattle.fam_model.specs.Directory.{Memory}
-use Rattle.fam_model.specs.Lists.{◌>>=◌, change_place, change_number, place_of, find_number}
+use Rattle.fam_model.specs.Lists.{◌>>=◌, change_place, place_of, find_number}
 use Rattle.fam_model.specs.PieceStep.{entry_number, item_bytes, overwritten, with_bytes, bytes_found, memory_by_kind, memory_by_piece, is_refused}
 use Rattle.fam_model.specs.Programs.{Placed, placed}
 use Rattle.fam_model.specs.Rows.{IsLawful, item_of, item_number}
-use Rattle.fam_machine.specs.Sound.{entry_extent, item_extent, IsMemoryOf, IsSoundPiece, IsSoundOperation, HoldsSound, is_sound_kind, IsSoundAtomic}
-use Rattle.fam_machine.proofs.Lists.{bind_some, All-at, both_true, find_number-find}
+use Rattle.fam_machine.specs.Sound.{entry_extent, item_extent, IsMemoryOf, IsSoundPiece, HoldsSound, is_sound_kind, IsSoundAtomic}
+use Rattle.fam_machine.proofs.Lists.{bind_some, All-at, find_number-find}
 use Rattle.fam_machine.proofs.Changes.{extent_of, found-map, mapped_some}
 use Rattle.fam_machine.proofs.Programs.{placed_sound}
 

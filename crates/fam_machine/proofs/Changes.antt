@@ -1,11 +1,10 @@
 -- What a change of the directory leaves of items, and of memory.
-use Rattle.std.proofs.Common.{◌≡◌, ℕ, ◌<◌, ◌≤◌, suc, zero, List, [], ◌∷◌, ◌++◌, length, get_or, map, Option, Some, None, Bool, true, false, sym, ap, subst, ◌∙◌, arith, rules, refl}
-use Rattle.std.specs.Prelude.{◌==◌, ◌&&◌, ◌+◌, not, nat_le, nat_lt, cond, All, filter, find, is_some, IsTrue, replicate}
+use Rattle.std.proofs.Common.{◌≡◌, ℕ, ◌<◌, ◌≤◌, List, [], ◌∷◌, ◌++◌, get_or, map, Option, Some, None, Bool, true, false, sym, ap, subst, ◌∙◌, arith, refl}
+use Rattle.std.specs.Prelude.{◌==◌, ◌&&◌, not, nat_le, nat_lt, cond, All, filter, find, is_some, IsTrue}
 use Rattle.std.specs.Option.{option_map, option_or}
 use Rattle.std.specs.List.Sorted.{IsStrictlyIncreasing}
 use Rattle.std.proofs.lemmas.Bool.{false≢true}
 use Rattle.std.proofs.lemmas.Bool.Decides.{nat_tests}
-use Rattle.std.proofs.lemmas.Grind.{common_steps}
 use Rattle.std.proofs.lemmas.List.{map-append, length-map, length-replicate, append-nil, get_or-map}
 use Rattle.std.proofs.lemmas.List.Elements.{All-cons, All-tail, All-head, All-nil, All-filter, All-map}
 use Rattle.std.proofs.lemmas.List.Folds.{find-append}
@@ -18,8 +17,7 @@ use Rattle.fam_model.specs.declared.rows.Rows.{Rows}
 use Rattle.fam_model.specs.Directory.{after, memory_after, new_bytes, Memory}
 use Rattle.fam_model.specs.Lawful.{is_lawful_change, is_next_number}
 use Rattle.fam_model.specs.Limits.{number_end}
-use Rattle.fam_model.specs.Lists.{find_number, change_number}
-use Rattle.fam_model.specs.PieceStep.{entry_number}
+use Rattle.fam_model.specs.Lists.{find_number}
 use Rattle.fam_model.specs.Rows.{IsLawful, item_of, item_number}
 use Rattle.fam_machine.specs.Sound.{entry_extent, item_extent, IsMemoryOf}
 use Rattle.fam_machine.proofs.Lists.{find_number-find, found-filter, found_passes, found_holds, rise_behind, above_first, map-change_number, both_true}

@@ -1,17 +1,14 @@
 -- A piece that is answered.
-use Rattle.std.proofs.Common.{◌≡◌, ℕ, ◌+◌, ◌-◌, ◌≤◌, min, List, [], length, map, take, drop, Option, Some, None, Bool, true, false, sym, ap, subst, ◌∙◌, refl, arith}
-use Rattle.std.specs.Prelude.{◌&&◌, ◌==◌, not, if◌then◌else◌, slice_get, slice_set, IsTrue, All, is_some, IsSome}
-use Rattle.std.specs.Option.{option_map, option_map_or}
+use Rattle.std.proofs.Common.{◌≡◌, ℕ, ◌+◌, ◌≤◌, List, [], length, Option, Some, None, Bool, true, false, sym, ap, ◌∙◌, refl, arith}
+use Rattle.std.specs.Prelude.{◌&&◌, ◌==◌, not, if◌then◌else◌, IsTrue}
 use Rattle.std.proofs.lemmas.Bool.{false≢true}
 use Rattle.std.proofs.lemmas.Bool.Decides.{nat_tests}
-use Rattle.std.proofs.lemmas.List.{length-take, length-drop, map-set}
-use Rattle.std.proofs.lemmas.Option.{none-some, same_Some, slice_get-map}
+use Rattle.std.proofs.lemmas.List.{length-take, length-drop}
 use Rattle.fam_base.specs.Permission.{is_allowed}
 use Rattle.fam_base.specs.declared.naming.Who.{Who}
 use Rattle.fam_base.specs.declared.error.FamError.{FamError}
-use Rattle.fam_base.specs.declared.error.FamError.TheVariants.{Memory, Absent, NoPermission, HistoryFull}
+use Rattle.fam_base.specs.declared.error.FamError.TheVariants.{Absent, NoPermission}
 use Rattle.fam_model.specs.contracts.plain.PieceAnswerExact.TheImpl.Laws as answer_laws
-use Rattle.fam_model.specs.declared.event.What.TheVariants as what
 use Rattle.fam_model.specs.declared.piece.Mark.TheVariants as mark
 use Rattle.fam_model.specs.declared.piece.MarkedPiece.{MarkedPiece}
 use Rattle.fam_model.specs.declared.piece.Operation.{Operation}
@@ -24,20 +21,15 @@ use Rattle.fam_model.specs.declared.reply.PieceAnswer.{PieceAnswer}
 use Rattle.fam_model.specs.declared.reply.PieceAnswer.TheVariants as answer
 use Rattle.fam_model.specs.declared.rows.ItemRow.{ItemRow}
 use Rattle.fam_model.specs.declared.rows.Rows.{Rows}
-use Rattle.fam_model.specs.declared.state.ProgramState.{ProgramState}
 use Rattle.fam_model.specs.Directory.{Memory as MemoryOfItems}
 use Rattle.fam_model.specs.Limits.{Limits, service_limits}
-use Rattle.fam_model.specs.Lists.{◌>>=◌, when, is_some_and, change_place}
-use Rattle.fam_model.specs.Operations.{is_left, may_come, is_copy}
-use Rattle.fam_model.specs.PieceStep.{item_bytes, bytes_found, served_answer, due_answer, may_answer, is_refused, is_read, is_copy_read, marked, handed, with_answer, piece_step, memory_by_kind, memory_by_piece}
-use Rattle.fam_model.specs.Programs.{Placed, placed, with_placed}
+use Rattle.fam_model.specs.Lists.{change_place}
+use Rattle.fam_model.specs.Operations.{is_copy}
+use Rattle.fam_model.specs.PieceStep.{item_bytes, bytes_found, served_answer, due_answer, may_answer, is_refused, is_read, is_copy_read, marked, handed, with_answer}
 use Rattle.fam_model.specs.Rows.{item_of, item_owner}
-use Rattle.fam_model.specs.Rules.{is_due}
-use Rattle.fam_model.specs.Same.{same_answer}
 use Rattle.fam_context.specs.Effects.{gives_bytes, is_answer_of, answered_with}
-use Rattle.fam_program.specs.Parts.{may_collect, collected_step, piece_of}
 use Rattle.fam_machine.specs.Collected.{collected_answer}
-use Rattle.fam_machine.specs.Sound.{IsSoundPiece, IsMemoryOf, may_have, is_atomic}
+use Rattle.fam_machine.specs.Sound.{IsSoundPiece, IsMemoryOf, may_have}
 use Rattle.fam_machine.proofs.Bytes.{found_inside}
 use Rattle.fam_machine.proofs.Lists.{both_true}
 

@@ -1,10 +1,10 @@
 -- The step of a piece.
-use Rattle.std.proofs.Common.{◌≡◌, ℕ, ◌+◌, ◌≤◌, List, length, map, Option, Some, None, Bool, true, false, sym, ap, subst, ◌∙◌, refl, arith}
-use Rattle.std.specs.Prelude.{◌&&◌, not, if◌then◌else◌, slice_get, slice_set, IsTrue, IsSome, All}
+use Rattle.std.proofs.Common.{◌≡◌, ℕ, map, Option, Some, None, Bool, true, false, sym, ap, subst, ◌∙◌, refl}
+use Rattle.std.specs.Prelude.{◌&&◌, if◌then◌else◌, slice_get, slice_set, IsTrue, IsSome}
 use Rattle.std.specs.Option.{option_map, option_map_or}
 use Rattle.std.proofs.lemmas.Bool.{false≢true}
 use Rattle.std.proofs.lemmas.List.{map-set}
-use Rattle.std.proofs.lemmas.Option.{none-some, same_Some, slice_get-map}
+use Rattle.std.proofs.lemmas.Option.{same_Some, slice_get-map}
 use Rattle.fam_model.specs.declared.event.What.TheVariants as what
 use Rattle.fam_model.specs.declared.piece.MarkedPiece.{MarkedPiece}
 use Rattle.fam_model.specs.declared.piece.Operation.{Operation}
@@ -18,21 +18,19 @@ use Rattle.fam_model.specs.Directory.{Memory}
 use Rattle.fam_model.specs.Limits.{service_limits}
 use Rattle.fam_model.specs.Lists.{◌>>=◌, when, is_some_and}
 use Rattle.fam_model.specs.Operations.{is_left, may_come, is_past_fences, has_its_bytes}
-use Rattle.fam_model.specs.PieceStep.{item_bytes, bytes_found, due_answer, may_answer, is_refused, with_answer, piece_step, memory_by_kind, memory_by_piece}
+use Rattle.fam_model.specs.PieceStep.{bytes_found, due_answer, may_answer, is_refused, with_answer, piece_step, memory_by_kind, memory_by_piece}
 use Rattle.fam_model.specs.Programs.{Placed, placed, with_placed, with_program}
-use Rattle.fam_model.specs.Rules.{is_due, rule_of}
-use Rattle.fam_model.specs.Step.{effect}
+use Rattle.fam_model.specs.Rules.{is_due}
 use Rattle.fam_context.specs.Effects.{is_answer_of, answered_with}
 use Rattle.fam_program.specs.Parts.{may_collect, collected_step, piece_of}
 use Rattle.fam_program.specs.declared.tracked.TrackedProgram.{TrackedProgram}
 use Rattle.fam_machine.specs.declared.parts.Parts.{Parts}
 use Rattle.fam_machine.specs.Collected.{collected_answer}
-use Rattle.fam_machine.specs.Sound.{IsSound, IsSoundPiece, IsSoundOperation, IsMemoryOf, may_have, piece_extent}
-use Rattle.fam_machine.specs.Views.{state_of, states_of, effect_at, rule_at}
+use Rattle.fam_machine.specs.Sound.{IsSound, IsSoundPiece, may_have, piece_extent}
+use Rattle.fam_machine.specs.Views.{state_of, effect_at, rule_at}
 use Rattle.fam_machine.proofs.Bytes.{piece_sound_at}
-use Rattle.fam_machine.proofs.Changes.{mapped_some}
-use Rattle.fam_machine.proofs.Collecting.{answer_fits, answered_same, served_inside}
-use Rattle.fam_machine.proofs.Lists.{bind_some, both_true, All-at}
+use Rattle.fam_machine.proofs.Collecting.{answer_fits, answered_same}
+use Rattle.fam_machine.proofs.Lists.{All-at}
 use Rattle.fam_machine.proofs.Programs.{placed_sound}
 use Rattle.fam_machine.proofs.Taking.{effect_here, rule_here, sound_here}
 

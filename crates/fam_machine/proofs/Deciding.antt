@@ -1,45 +1,25 @@
 -- What becomes of a call that is issued.
-use Rattle.std.proofs.Common.{◌≡◌, ℕ, ◌+◌, ◌≤◌, inl, inr, ◌⊎◌, List, [], ◌∷◌, ◌++◌, length, map, Option, Some, None, Bool, true, false, sym, ap, subst, ◌∙◌, refl}
-use Rattle.std.specs.Prelude.{◌&&◌, ◌||◌, not, if◌then◌else◌, IsTrue, is_some}
-use Rattle.std.specs.Option.{option_or}
+use Rattle.std.proofs.Common.{◌≡◌, ℕ, ◌+◌, List, [], ◌∷◌, map, Bool, true, false, ap, ◌∙◌, refl}
+use Rattle.std.specs.Prelude.{◌||◌, not, if◌then◌else◌}
 use Rattle.std.specs.List.{flat_map}
-use Rattle.std.proofs.lemmas.Bool.{false≢true}
-use Rattle.std.proofs.lemmas.Option.{none-some, same_Some}
-use Rattle.fam_base.specs.declared.error.FamError.{FamError}
-use Rattle.fam_base.specs.declared.error.FamError.TheVariants as error
 use Rattle.fam_base.specs.declared.naming.Descriptor.{Descriptor}
-use Rattle.fam_model.specs.declared.call.Call.{Call}
-use Rattle.fam_model.specs.declared.call.Call.TheVariants as call
 use Rattle.fam_model.specs.declared.call.DataOp.{DataOp}
 use Rattle.fam_model.specs.declared.call.DataOp.TheVariants as data_op
 use Rattle.fam_model.specs.declared.piece.Part.{Part}
 use Rattle.fam_model.specs.declared.piece.PlanKind.TheVariants as plan_kinds
-use Rattle.fam_model.specs.declared.reply.Reply.{Reply}
-use Rattle.fam_model.specs.declared.reply.Reply.TheVariants as reply
 use Rattle.fam_model.specs.declared.rows.Rows.{Rows}
 use Rattle.fam_model.specs.declared.service.Service.{Service}
 use Rattle.fam_model.specs.declared.state.ProgramState.{ProgramState}
 use Rattle.fam_layout.specs.declared.plan.Plan.{Plan}
-use Rattle.fam_layout.specs.Plans.{planned, plan_refusal}
+use Rattle.fam_layout.specs.Plans.{planned}
 use Rattle.fam_context.specs.Order.{is_planned_in_turn, are_in_turn}
-use Rattle.fam_program.specs.Budget.{exceeds_budget}
-use Rattle.fam_program.specs.Parts.{issued_step}
-use Rattle.fam_program.specs.Steps.{is_no_data}
-use Rattle.fam_model.specs.Directory.{first_case, error_or}
 use Rattle.fam_model.specs.Atomic.{is_fetching}
-use Rattle.fam_model.specs.Issue.{data_refusals, plan_refusals, targets, is_over_budget, issue_refusal}
-use Rattle.fam_model.specs.IssueStep.{accepted, issue_with, issue_step, with_issued}
-use Rattle.fam_model.specs.Lists.{◌>>=◌, when}
 use Rattle.fam_model.specs.Operations.{is_copy}
 use Rattle.fam_model.specs.PieceStep.{is_read}
-use Rattle.fam_model.specs.Pieces.{pieces, plan_kind, copies, read_piece, write_piece, part, cut_where, is_border}
-use Rattle.fam_model.specs.Programs.{is_open, open_context, counted}
-use Rattle.fam_model.specs.Same.{same_reply}
-use Rattle.fam_model.specs.Shape.{is_shaped_data, is_slot}
+use Rattle.fam_model.specs.Pieces.{read_piece, write_piece, part, cut_where, is_border}
 use Rattle.fam_machine.specs.Issuing.{Knows, IsAccepted}
-use Rattle.fam_machine.specs.Sound.{HoldsSound, IsKnown}
+use Rattle.fam_machine.specs.Sound.{HoldsSound}
 use Rattle.fam_machine.proofs.Issued.{targets_known}
-use Rattle.fam_machine.proofs.Lists.{both_true}
 
 -- the items of an operation lie where items may lie
 pub knows : (rows : Rows) (p : ProgramState) (op : DataOp) → HoldsSound rows p → Knows p op

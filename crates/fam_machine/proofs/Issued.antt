@@ -1,8 +1,7 @@
 -- What the issue of a call keeps.
-use Rattle.std.proofs.Common.{◌≡◌, ℕ, List, [], ◌∷◌, ◌++◌, map, Option, Some, None, Bool, true, false, sym, ap, subst, ◌∙◌, refl}
-use Rattle.std.specs.Prelude.{◌&&◌, not, if◌then◌else◌, All, slice_get, IsTrue}
-use Rattle.std.proofs.lemmas.Bool.{false≢true}
-use Rattle.std.proofs.lemmas.List.Elements.{All-cons, All-nil, All-append, All-map, All-weaker, All-set}
+use Rattle.std.proofs.Common.{◌≡◌, ℕ, List, [], ◌∷◌, ◌++◌, map, Option, Some, None, Bool, true, false, sym, ap, subst, refl}
+use Rattle.std.specs.Prelude.{not, if◌then◌else◌, slice_get, IsTrue}
+use Rattle.std.proofs.lemmas.List.Elements.{All-cons, All-nil, All-append, All-map, All-set}
 use Rattle.std.proofs.lemmas.Option.{none-some, same_Some}
 use Rattle.fam_base.specs.declared.naming.Descriptor.{Descriptor}
 use Rattle.fam_base.specs.declared.error.FamError.{FamError}
@@ -12,7 +11,6 @@ use Rattle.fam_model.specs.declared.call.Call.TheVariants as call
 use Rattle.fam_model.specs.declared.call.DataOp.{DataOp}
 use Rattle.fam_model.specs.declared.piece.PlanPiece.{PlanPiece}
 use Rattle.fam_model.specs.declared.reply.Reply.{Reply}
-use Rattle.fam_model.specs.declared.reply.Reply.TheVariants as reply
 use Rattle.fam_model.specs.declared.rows.Rows.{Rows}
 use Rattle.fam_model.specs.declared.service.Service.{Service}
 use Rattle.fam_model.specs.declared.state.Context.{Context}
@@ -20,9 +18,8 @@ use Rattle.fam_model.specs.declared.state.ProgramState.{ProgramState}
 use Rattle.fam_model.specs.Directory.{first_case, error_or}
 use Rattle.fam_model.specs.Issue.{issue_refusal, targets, plan_refusals, data_refusals, is_over_budget, slot_of, second_slot_of}
 use Rattle.fam_model.specs.IssueStep.{new_operation, with_issued, accepted, issue_with, issue_step, left_piece}
-use Rattle.fam_model.specs.Lists.{◌>>=◌, when}
 use Rattle.fam_model.specs.Pieces.{pieces, plan_kind}
-use Rattle.fam_model.specs.Programs.{item_slot, is_open, open_context, counted}
+use Rattle.fam_model.specs.Programs.{item_slot, is_open, open_context}
 use Rattle.fam_model.specs.Shape.{is_shaped, is_shaped_data, is_context}
 use Rattle.fam_machine.specs.Sound.{IsKnown, IsSoundPiece, IsSoundOperation, IsSoundContext, IsSoundSlot, HoldsSound, may_have, piece_extent}
 use Rattle.fam_machine.proofs.Lists.{bind_some, when_some, both_true, All-at}

@@ -1,14 +1,13 @@
 -- Words of the definitions on lists and options.
-use Rattle.std.proofs.Common.{◌≡◌, ℕ, ◌<◌, suc, zero, List, [], ◌∷◌, ◌++◌, length, get_or, set, map, Option, Some, None, Bool, true, false, sym, ap, subst, ◌∙◌, arith, rules, refl}
+use Rattle.std.proofs.Common.{◌≡◌, ℕ, ◌<◌, suc, List, [], ◌∷◌, length, get_or, set, map, Option, Some, None, Bool, true, false, sym, ap, subst, ◌∙◌, arith, refl}
 use Rattle.std.specs.Prelude.{◌==◌, ◌&&◌, ◌+◌, nat_lt, cond, slice_get, slice_set, All, filter, find}
-use Rattle.std.specs.Option.{option_map, option_map_or}
-use Rattle.std.specs.List.{position, position_or_len}
+use Rattle.std.specs.Option.{option_map_or}
+use Rattle.std.specs.List.{position_or_len}
 use Rattle.std.specs.List.Sorted.{IsStrictlyIncreasing}
 use Rattle.std.proofs.lemmas.Bool.{false≢true}
 use Rattle.std.proofs.lemmas.Bool.Decides.{nat_tests}
-use Rattle.std.proofs.lemmas.Grind.{common_steps}
 use Rattle.std.proofs.lemmas.List.{map-set, set-get_or}
-use Rattle.std.proofs.lemmas.List.Elements.{All-set, All-cons, All-tail, All-head}
+use Rattle.std.proofs.lemmas.List.Elements.{All-set, All-tail, All-head}
 use Rattle.std.proofs.lemmas.List.Folds.{find_at}
 use Rattle.std.proofs.lemmas.Option.{none-some, same_Some, slice_get_within, slice_get_past, get_or_from_slice_get}
 use Rattle.fam_model.specs.Lists.{◌>>=◌, when, change_place, change_number, place_of, find_number}

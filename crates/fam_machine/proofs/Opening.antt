@@ -1,23 +1,22 @@
 -- The state in which a run begins is sound.
-use Rattle.std.proofs.Common.{◌≡◌, ℕ, ◌+◌, ◌<◌, ◌≤◌, List, [], ◌∷◌, map, length, get_or, Option, Some, None, Bool, true, false, sym, ap, subst, ◌∙◌, refl, arith}
-use Rattle.std.specs.Prelude.{All, IsTrue, nat_lt, replicate, slice_get}
+use Rattle.std.proofs.Common.{ℕ, ◌<◌, List, map, length, get_or, Some, None, Bool, sym, ap, subst, ◌∙◌, arith}
+use Rattle.std.specs.Prelude.{All, IsTrue, nat_lt, replicate}
 use Rattle.std.specs.List.{enumerate_from}
 use Rattle.std.proofs.lemmas.Bool.{false≢true}
 use Rattle.std.proofs.lemmas.List.{length-replicate}
 use Rattle.std.proofs.lemmas.List.Elements.{All-cons, All-nil, All-map, All-replicate}
 use Rattle.std.proofs.lemmas.List.FromFn.{get_or-enumerate_from, length-enumerate_from}
 use Rattle.std.proofs.lemmas.Option.{none-some, same_Some}
-use Rattle.fam_base.specs.declared.naming.Descriptor.{Descriptor}
 use Rattle.fam_base.specs.declared.naming.Who.{Who}
 use Rattle.fam_model.specs.declared.rows.ItemRow.{ItemRow}
 use Rattle.fam_model.specs.declared.rows.Rows.{Rows}
 use Rattle.fam_model.specs.declared.service.Service.{Service}
 use Rattle.fam_model.specs.ContextStep.{new_context}
-use Rattle.fam_model.specs.Limits.{nobody, number_end}
-use Rattle.fam_model.specs.Opened.{zero_memory, slots_with, closed_context, new_program, opened}
+use Rattle.fam_model.specs.Limits.{nobody}
+use Rattle.fam_model.specs.Opened.{zero_memory, closed_context, new_program, opened}
 use Rattle.fam_model.specs.Rows.{IsLawful, common_item, descriptor_of}
 use Rattle.fam_model.specs.Services.{is_service}
-use Rattle.fam_machine.specs.Sound.{IsKnown, IsSoundSlot, IsSoundOperation, IsSoundContext, HoldsSound, IsOnTime, IsSoundProgram, IsSound, IsMemoryOf, entry_extent, item_extent}
+use Rattle.fam_machine.specs.Sound.{IsKnown, IsSoundSlot, IsSoundOperation, IsSoundContext, IsSoundProgram, IsSound, IsMemoryOf, entry_extent}
 use Rattle.fam_machine.proofs.Bytes.{map-map}
 use Rattle.fam_machine.proofs.Lists.{All-at}
 use Rattle.fam_machine.proofs.Told.{IsThere, all_there, there_known}

@@ -1,5 +1,5 @@
 -- Where an element of a list in order of number stands.
-use Rattle.std.proofs.Common.{◌≡◌, ℕ, ◌<◌, ◌≤◌, List, length, get_or, map, Option, Some, None, Result, Ok, Err, Bool, true, false, sym, ap, subst, ◌∙◌, arith, rules, refl, [], ◌∷◌, inl, inr}
+use Rattle.std.proofs.Common.{◌≡◌, ℕ, ◌<◌, List, length, get_or, map, Result, Ok, Err, true, false, sym, ap, arith, refl, [], ◌∷◌, inl, inr}
 use Rattle.std.specs.Prelude.{◌==◌, nat_lt}
 use Rattle.std.specs.Result.{result_ok}
 use Rattle.std.specs.List.{position_or_len, AllPairs}

@@ -1,17 +1,14 @@
 -- The pieces of an operation that is not refused lie inside its items.
-use Rattle.std.proofs.Common.{◌≡◌, ℕ, ◌+◌, ◌-◌, ◌<◌, ◌≤◌, suc, zero, List, [], ◌∷◌, ◌++◌, length, map, take, drop, Option, Some, None, Bool, true, false, sym, ap, subst, ◌∙◌, arith, rules, refl}
-use Rattle.std.specs.Prelude.{◌==◌, ◌&&◌, ◌||◌, not, nat_le, nat_lt, cond, All, slice_get, IsTrue, pos, ℤ, if◌then◌else◌}
+use Rattle.std.proofs.Common.{◌≡◌, ℕ, ◌+◌, ◌≤◌, suc, zero, List, [], ◌∷◌, length, map, take, drop, None, Bool, true, false, sym, ap, ◌∙◌, arith, refl}
+use Rattle.std.specs.Prelude.{◌==◌, ◌&&◌, ◌||◌, not, nat_lt, All, IsTrue, pos, ℤ, if◌then◌else◌}
 use Rattle.std.specs.Bool.{beq}
-use Rattle.std.specs.List.{flat_map, list_any}
-use Rattle.std.specs.Ordering.{int_eq}
+use Rattle.std.specs.List.{flat_map}
 use Rattle.std.proofs.lemmas.Bool.{false≢true}
 use Rattle.std.proofs.lemmas.Bool.Decides.{nat_tests, Decides-int_eq}
-use Rattle.std.proofs.lemmas.Grind.{common_steps}
 use Rattle.std.proofs.lemmas.List.{length-take}
 use Rattle.std.proofs.lemmas.List.Elements.{All-cons, All-tail, All-head, All-nil, All-append, All-map, All-weaker}
 use Rattle.std.proofs.lemmas.Option.{none-some, same_Some}
 use Rattle.fam_base.specs.declared.naming.Descriptor.{Descriptor}
-use Rattle.fam_base.specs.declared.error.FamError.{FamError}
 use Rattle.fam_base.specs.declared.error.FamError.TheVariants.{Unsupported, Unaligned, TooLarge, Range}
 use Rattle.fam_model.specs.declared.call.DataOp.{DataOp}
 use Rattle.fam_model.specs.declared.call.DataOp.TheVariants as data_op

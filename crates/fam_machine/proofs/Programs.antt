@@ -1,10 +1,9 @@
 -- What the steps of a program keep.
-use Rattle.std.proofs.Common.{◌≡◌, ℕ, ◌+◌, ◌<◌, ◌≤◌, suc, zero, List, [], ◌∷◌, ◌++◌, length, map, Option, Some, None, Bool, true, false, sym, ap, subst, ◌∙◌, arith, rules, refl}
-use Rattle.std.specs.Prelude.{◌==◌, ◌&&◌, not, cond, if◌then◌else◌, All, slice_get, slice_set, IsTrue}
+use Rattle.std.proofs.Common.{◌≡◌, ℕ, ◌+◌, ◌≤◌, suc, List, length, map, Some, Bool, true, false, sym, ap, subst, ◌∙◌, arith, refl}
+use Rattle.std.specs.Prelude.{not, if◌then◌else◌, All, slice_get, IsTrue}
 use Rattle.std.specs.Option.{option_map}
-use Rattle.std.proofs.lemmas.Bool.{false≢true}
 use Rattle.std.proofs.lemmas.List.{length-take}
-use Rattle.std.proofs.lemmas.List.Elements.{All-cons, All-nil, All-append, All-map, All-set, All-weaker}
+use Rattle.std.proofs.lemmas.List.Elements.{All-nil, All-map, All-set, All-weaker}
 use Rattle.std.proofs.lemmas.Option.{none-some, same_Some, slice_get-map}
 use Rattle.fam_model.specs.declared.piece.Mark.{Mark}
 use Rattle.fam_model.specs.declared.piece.Mark.TheVariants as mark
@@ -13,7 +12,6 @@ use Rattle.fam_model.specs.declared.piece.Operation.{Operation}
 use Rattle.fam_model.specs.declared.piece.PlanPiece.{PlanPiece}
 use Rattle.fam_model.specs.declared.reply.PieceAnswer.{PieceAnswer}
 use Rattle.fam_model.specs.declared.reply.Reply.{Reply}
-use Rattle.fam_model.specs.declared.reply.Reply.TheVariants as reply
 use Rattle.fam_model.specs.declared.rows.Rows.{Rows}
 use Rattle.fam_model.specs.declared.state.Context.{Context}
 use Rattle.fam_model.specs.declared.state.Started.{Started}
@@ -22,12 +20,11 @@ use Rattle.fam_model.specs.declared.state.ProgramState.{ProgramState}
 use Rattle.fam_model.specs.ContextStep.{answer_step, answered_step, new_context, open_step, fence_step, quiet_step, close_step, wait_step, with_nothing_started}
 use Rattle.fam_model.specs.Directory.{Memory}
 use Rattle.fam_model.specs.Limits.{Limits}
-use Rattle.fam_model.specs.Lists.{◌>>=◌, when, change_place, change_number}
-use Rattle.fam_model.specs.Operations.{is_copy, has_left, is_pending, is_unreported, may_come, as_reported, reported, result, report, is_left}
-use Rattle.fam_model.specs.PieceStep.{bytes_found, marked, handed, is_refused, is_read, is_copy_read, with_answer, without_piece, piece_step, lose_step, may_answer, due_answer}
-use Rattle.fam_model.specs.Programs.{Placed, placed, context_of, operation_of, call_number, open_context, is_open, with_context, with_placed, with_operation, unreported_copy, counted, has_crashed, has_passed}
-use Rattle.fam_model.specs.Same.{same_reply}
-use Rattle.fam_machine.specs.Sound.{IsKnown, IsSoundPiece, IsSoundOperation, IsSoundContext, IsSoundSlot, HoldsSound, ArePaired, piece_extent, may_have}
+use Rattle.fam_model.specs.Lists.{when, change_place}
+use Rattle.fam_model.specs.Operations.{is_copy, as_reported, reported}
+use Rattle.fam_model.specs.PieceStep.{bytes_found, marked, handed, is_refused, is_read, is_copy_read, with_answer, without_piece, piece_step, lose_step}
+use Rattle.fam_model.specs.Programs.{Placed, placed, context_of, operation_of, call_number, open_context, is_open, with_context, with_placed, with_operation, unreported_copy, counted}
+use Rattle.fam_machine.specs.Sound.{IsSoundPiece, IsSoundOperation, IsSoundContext, HoldsSound, ArePaired, piece_extent, may_have}
 use Rattle.fam_machine.proofs.Lists.{bind_some, when_some, both_true, All-at, All-found, All-change_place, All-change_number, map-change_place}
 
 -- what a step of a program leaves, where its call number rises by n

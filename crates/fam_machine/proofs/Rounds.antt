@@ -1,22 +1,21 @@
 -- Programs and the rounds of the barrier.
-use Rattle.std.proofs.Common.{◌≡◌, ℕ, ◌+◌, ◌<◌, ◌≤◌, ◌^◌, List, [], ◌∷◌, map, length, get_or, Option, Some, None, Bool, true, false, sym, ap, subst, ◌∙◌, refl, arith, inl, inr}
-use Rattle.std.specs.Prelude.{◌&&◌, ◌||◌, ◌==◌, nat_lt, not, if◌then◌else◌, All, slice_get, IsTrue}
+use Rattle.std.proofs.Common.{◌≡◌, ℕ, ◌+◌, ◌<◌, ◌≤◌, List, [], ◌∷◌, Option, Some, None, Bool, true, false, sym, ap, subst, ◌∙◌, refl, arith}
+use Rattle.std.specs.Prelude.{◌&&◌, ◌||◌, ◌==◌, nat_lt, not, if◌then◌else◌, All}
 use Rattle.std.specs.List.{list_all, list_any}
 use Rattle.std.proofs.lemmas.Bool.{false≢true}
 use Rattle.std.proofs.lemmas.Bool.Decides.{nat_tests}
-use Rattle.std.proofs.lemmas.List.Elements.{All-cons, All-nil, All-weaker, All-head, All-tail}
-use Rattle.std.proofs.lemmas.Option.{none-some, same_Some}
+use Rattle.std.proofs.lemmas.List.Elements.{All-cons, All-nil, All-head, All-tail}
+use Rattle.std.proofs.lemmas.Option.{same_Some}
 use Rattle.fam_base.specs.declared.naming.Who.{Who}
 use Rattle.fam_model.specs.declared.rows.Rows.{Rows}
-use Rattle.fam_model.specs.declared.state.Standing.{Standing}
 use Rattle.fam_model.specs.declared.state.Started.TheVariants as started
 use Rattle.fam_model.specs.declared.state.Standing.TheVariants as standing
 use Rattle.fam_model.specs.declared.state.ProgramState.{ProgramState}
 use Rattle.fam_model.specs.EndStep.{may_arrive, arrive_step, leave_step, crash_step, has_pending}
 use Rattle.fam_model.specs.Limits.{number_end, nobody}
-use Rattle.fam_model.specs.Lists.{is_some_and, when}
+use Rattle.fam_model.specs.Lists.{is_some_and}
 use Rattle.fam_model.specs.Programs.{is_member, is_running, has_arrived, is_complete, round_after, counted}
-use Rattle.fam_model.specs.Turn.{is_in_turn, is_next}
+use Rattle.fam_model.specs.Turn.{is_next}
 use Rattle.fam_machine.specs.Sound.{HoldsSound, IsOnTime, IsSoundProgram}
 use Rattle.fam_machine.proofs.Lists.{both_true, when_some}
 use Rattle.fam_machine.proofs.Programs.{IsNext}

@@ -1,12 +1,11 @@
 -- Each step keeps what holds of every state.
-use Rattle.std.proofs.Common.{◌≡◌, ℕ, ◌+◌, ◌<◌, ◌≤◌, List, map, Option, Some, None, Bool, true, false, sym, ap, subst, ◌∙◌, refl, arith}
-use Rattle.std.specs.Prelude.{◌&&◌, if◌then◌else◌, All, slice_get, slice_set, IsTrue, ⊤}
+use Rattle.std.proofs.Common.{◌≡◌, ℕ, ◌<◌, ◌≤◌, Option, Some, None, Bool, true, false, sym, ap, subst, ◌∙◌, refl, arith}
+use Rattle.std.specs.Prelude.{◌&&◌, if◌then◌else◌, All, slice_set, IsTrue}
 use Rattle.std.specs.Option.{option_map}
 use Rattle.std.proofs.lemmas.Bool.{false≢true}
 use Rattle.std.proofs.lemmas.List.Elements.{All-set, All-weaker}
 use Rattle.std.proofs.lemmas.Option.{none-some, same_Some}
 use Rattle.fam_base.specs.declared.naming.Who.{Who}
-use Rattle.fam_base.specs.declared.error.FamError.{FamError}
 use Rattle.fam_model.specs.declared.call.Call.{Call}
 use Rattle.fam_model.specs.declared.call.MetaCall.{MetaCall}
 use Rattle.fam_model.specs.declared.call.MetaCall.TheVariants as meta
@@ -14,33 +13,31 @@ use Rattle.fam_model.specs.declared.change.Change.{Change}
 use Rattle.fam_model.specs.declared.event.Event.{Event}
 use Rattle.fam_model.specs.declared.event.What.{What}
 use Rattle.fam_model.specs.declared.event.What.TheVariants as what
-use Rattle.fam_model.specs.declared.piece.PlanPiece.{PlanPiece}
 use Rattle.fam_model.specs.declared.reply.PieceAnswer.{PieceAnswer}
 use Rattle.fam_model.specs.declared.reply.Reply.{Reply}
 use Rattle.fam_model.specs.declared.request.Request.{Request}
-use Rattle.fam_model.specs.declared.request.Request.TheVariants as request
 use Rattle.fam_model.specs.declared.rows.Rows.{Rows}
 use Rattle.fam_model.specs.declared.state.ProgramState.{ProgramState}
 use Rattle.fam_model.specs.declared.state.State.{State}
 use Rattle.fam_model.specs.ContextStep.{answer_step, open_step, fence_step, quiet_step, close_step, wait_step}
-use Rattle.fam_model.specs.Directory.{after, memory_after, Memory}
+use Rattle.fam_model.specs.Directory.{after}
 use Rattle.fam_model.specs.EndStep.{arrive_step, leave_step, crash_step}
 use Rattle.fam_model.specs.IssueStep.{issue_step}
 use Rattle.fam_model.specs.Lawful.{is_lawful_change}
 use Rattle.fam_model.specs.Limits.{Limits, number_end, nobody}
-use Rattle.fam_model.specs.Lists.{◌>>=◌, when, is_some_and}
-use Rattle.fam_model.specs.MetaStep.{meta_step, served_change, told_change, changed}
+use Rattle.fam_model.specs.Lists.{is_some_and}
+use Rattle.fam_model.specs.MetaStep.{meta_step, served_change, changed}
 use Rattle.fam_model.specs.PieceStep.{piece_step, memory_by_piece, lose_step}
-use Rattle.fam_model.specs.Programs.{program_of, with_program, with_member, request_of, region_slot, item_slot, is_running, round_after, counted}
-use Rattle.fam_model.specs.RefusedStep.{refused_step, would_serve, may_refuse}
+use Rattle.fam_model.specs.Programs.{program_of, with_program, with_member, request_of, region_slot, item_slot, is_running, round_after}
+use Rattle.fam_model.specs.RefusedStep.{refused_step}
 use Rattle.fam_model.specs.Rows.{IsLawful}
 use Rattle.fam_model.specs.Shape.{is_shaped}
 use Rattle.fam_model.specs.Step.{effect, step}
-use Rattle.fam_model.specs.Turn.{is_in_turn, is_next, is_idle, call_made, answers_started}
+use Rattle.fam_model.specs.Turn.{is_in_turn, is_next, is_idle, call_made}
 use Rattle.fam_rows.specs.Laws.{asked_mode}
 use Rattle.fam_rows.proofs.Keeping.{keeps_law}
 use Rattle.fam_rows.proofs.Served.{told_lawful}
-use Rattle.fam_machine.specs.Sound.{HoldsSound, IsOnTime, IsSoundProgram, IsSound, IsMemoryOf, call_mode, HasModes}
+use Rattle.fam_machine.specs.Sound.{IsOnTime, IsSoundProgram, IsSound, IsMemoryOf, call_mode, HasModes}
 use Rattle.fam_machine.specs.Views.{rows_with}
 use Rattle.fam_machine.proofs.Bytes.{memory_by_piece_extents}
 use Rattle.fam_machine.proofs.Changes.{KeepsItems, keeps_items, memory_follows, mapped_some}

@@ -1,13 +1,13 @@
 -- What a call on the directory keeps.
-use Rattle.std.proofs.Common.{◌≡◌, ℕ, ◌+◌, ◌*◌, ◌/◌, ◌%◌, ◌<◌, ◌≤◌, min, max, suc, List, [], ◌∷◌, ◌++◌, map, length, get_or, Option, Some, None, Bool, true, false, sym, ap, subst, ◌∙◌, refl, arith}
-use Rattle.std.specs.Prelude.{◌&&◌, ◌==◌, nat_le, cond, not, if◌then◌else◌, All, slice_get, IsTrue, is_some, is_none, find, filter}
+use Rattle.std.proofs.Common.{◌≡◌, ℕ, ◌+◌, ◌<◌, ◌≤◌, List, [], ◌∷◌, ◌++◌, map, get_or, Option, Some, None, Bool, true, false, sym, ap, subst, ◌∙◌, refl, arith}
+use Rattle.std.specs.Prelude.{◌&&◌, ◌==◌, nat_le, cond, All, is_some, is_none, find}
 use Rattle.std.specs.Option.{option_map_or, option_or}
 use Rattle.std.specs.List.Sorted.{IsStrictlyIncreasing}
 use Rattle.std.proofs.lemmas.Bool.{false≢true}
 use Rattle.std.proofs.lemmas.Bool.Decides.{nat_tests}
 use Rattle.std.proofs.lemmas.List.Elements.{All-cons, All-nil, All-weaker, All-set, All-filter}
 use Rattle.std.proofs.lemmas.List.Folds.{find-append}
-use Rattle.std.proofs.lemmas.Option.{none-some, same_Some}
+use Rattle.std.proofs.lemmas.Option.{same_Some}
 use Rattle.fam_base.specs.declared.naming.Descriptor.{Descriptor}
 use Rattle.fam_base.specs.declared.naming.Who.{Who}
 use Rattle.fam_base.specs.declared.naming.RegionId.{RegionId}
@@ -25,18 +25,18 @@ use Rattle.fam_model.specs.declared.rows.ItemRow.{ItemRow}
 use Rattle.fam_model.specs.declared.rows.RegionRow.{RegionRow}
 use Rattle.fam_model.specs.declared.rows.Rows.{Rows}
 use Rattle.fam_model.specs.declared.state.ProgramState.{ProgramState}
-use Rattle.fam_model.specs.Directory.{after, answer, refusal, found, change_at, may_lie}
+use Rattle.fam_model.specs.Directory.{after, answer, refusal, found, may_lie}
 use Rattle.fam_model.specs.Equals.{equal_replies}
-use Rattle.fam_model.specs.Limits.{max_region_size, nobody}
+use Rattle.fam_model.specs.Limits.{max_region_size}
 use Rattle.fam_model.specs.Lists.{◌>>=◌, when, find_number, is_some_and}
-use Rattle.fam_model.specs.MetaStep.{unchanging_reply, told_base, told_change, may_reply, served_change, meta_step}
+use Rattle.fam_model.specs.MetaStep.{unchanging_reply, told_change, may_reply, served_change, meta_step}
 use Rattle.fam_model.specs.Programs.{request_of, filled, fill_item, fill_region, counted, region_slot}
-use Rattle.fam_model.specs.Rows.{IsLawful, IsLawfulRegion, IsLawfulItem, item_of, item_number, region_of, region_number, region_named, item_named, items_in, descriptor_of, room, room_end, fits}
+use Rattle.fam_model.specs.Rows.{IsLawful, IsLawfulRegion, IsLawfulItem, item_of, item_number, region_of, region_number, region_named, item_named, items_in, descriptor_of, room, fits}
 use Rattle.fam_model.specs.Same.{same_reply}
 use Rattle.fam_machine.specs.Sound.{IsKnown, IsSoundPiece, IsSoundOperation, IsSoundContext, IsSoundSlot, HoldsSound}
 use Rattle.fam_machine.specs.Views.{rows_with}
 use Rattle.fam_machine.proofs.Changes.{KeepsItems}
-use Rattle.fam_machine.proofs.Lists.{bind_some, when_some, both_true, All-at, All-found, find_number-find, found_holds, found_passes, rise_behind, above_first}
+use Rattle.fam_machine.proofs.Lists.{bind_some, when_some, All-found, find_number-find, found_holds, found_passes, rise_behind, above_first}
 use Rattle.fam_machine.proofs.Programs.{IsNext, counted_next}
 
 -- what stays known where items are kept

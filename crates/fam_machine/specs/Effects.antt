@@ -1,7 +1,6 @@
 -- How a step is told from what breaks a rule.
-use Rattle.std.specs.Prelude.{◌≡◌, ℕ, Bool, true, false, List, map, Option, Some, None, Result, Ok, Err}
+use Rattle.std.specs.Prelude.{◌≡◌, ℕ, Bool, true, false, Option, Some, None, Result, Ok, Err}
 use Rattle.fam_base.specs.declared.naming.Who.{Who}
-use Rattle.fam_model.specs.declared.change.Change.{Change}
 use Rattle.fam_model.specs.declared.reply.Reply.{Reply}
 use Rattle.fam_model.specs.declared.request.Request.{Request}
 use Rattle.fam_model.specs.declared.rows.Rows.{Rows}

@@ -1,5 +1,5 @@
 -- What becomes of a data call.
-use Rattle.std.specs.Prelude.{◌≡◌, ℕ, ◌+◌, ◌≤◌, Bool, true, false, length, Option, Some, None, IsTrue, IsFalse}
+use Rattle.std.specs.Prelude.{◌≡◌, ℕ, ◌+◌, ◌≤◌, Bool, true, false, length, Some, None}
 use Rattle.fam_base.specs.declared.error.FamError.{FamError}
 use Rattle.fam_base.specs.declared.error.FamError.TheVariants as error
 use Rattle.fam_base.specs.declared.naming.Descriptor.{Descriptor}

@@ -1,9 +1,7 @@
-use Rattle.std.proofs.Common.{◌≡◌, ◌<◌, Some, true, false, rules, sym, ◌∙◌, arith, Err}
-use Rattle.fam_model.specs.Limits.{number_end}
+use Rattle.std.proofs.Common.{◌≡◌, true, false, rules, arith}
 use Rattle.fam_model.specs.Programs.{is_complete}
 use Rattle.std.specs.Prelude.{slice_set}
-use Rattle.fam_machine.specs.Views.{states_of, member_step_of, member_rule}
-use Rattle.fam_machine.specs.Effects.{Steps}
+use Rattle.fam_machine.specs.Views.{states_of}
 use Rattle.fam_machine.proofs.Taking.{member_taken, member_fails, round_can_rise}
 use Rattle.fam_machine.proofs.ends.member.Goals as goal
 

@@ -1,4 +1,4 @@
-use Rattle.std.proofs.Common.{rules, ◌∙◌, ap}
+use Rattle.std.proofs.Common.{◌∙◌, ap}
 use Rattle.fam_machine.specs.Views.{states_of}
 use Rattle.fam_machine.proofs.Steps.{one_more_program}
 use Rattle.fam_machine.proofs.machine.new_programs.Goals as goal

@@ -1,6 +1,4 @@
-use Rattle.std.proofs.Common.{rules, to_z-of_z, refl, ◌∙◌, ap}
-use Rattle.fam_model.specs.Atomic.{bytes_after}
-use Rattle.fam_model.specs.PieceStep.{with_bytes}
+use Rattle.std.proofs.Common.{to_z-of_z, refl}
 use Rattle.fam_machine.proofs.memory.apply_atomic.Goals as goal
 
 -- the arguments are passed on as they are

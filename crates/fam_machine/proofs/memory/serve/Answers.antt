@@ -1,4 +1,4 @@
-use Rattle.std.proofs.Common.{rules, to_z-of_z, refl, ◌∙◌, ap, sym}
+use Rattle.std.proofs.Common.{rules, to_z-of_z, ◌∙◌, ap, sym}
 use mir.Val.{SFits}
 use mir.Syntax.{w128}
 use Rattle.fam_model.specs.PieceStep.{memory_by_kind}

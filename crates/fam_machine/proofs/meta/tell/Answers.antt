@@ -1,7 +1,5 @@
-use Rattle.std.proofs.Common.{rules, ◌≡◌, None, Some, sym, ap, subst, ◌∙◌}
+use Rattle.std.proofs.Common.{rules, ◌≡◌, None, Some}
 use Rattle.fam_model.specs.Directory.{refusal, found}
-use Rattle.fam_model.specs.declared.reply.Reply.TheVariants as reply
-use Rattle.fam_machine.specs.Effects.{Tells, told_if}
 use Rattle.fam_machine.proofs.Replies.{refused_tells, found_tells}
 use Rattle.fam_machine.proofs.meta.tell.Goals as goal
 

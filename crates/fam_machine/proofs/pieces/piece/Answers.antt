@@ -1,11 +1,9 @@
-use Rattle.std.proofs.Common.{rules, ◌≡◌, Some, true, false, sym, ap, subst, ◌∙◌, refl}
-use Rattle.std.specs.Prelude.{slice_get, if◌then◌else◌}
+use Rattle.std.proofs.Common.{◌≡◌, Some, true, false, sym, subst, ◌∙◌, refl}
 use Rattle.std.proofs.lemmas.Option.{same_Some}
 use Rattle.fam_base.specs.declared.naming.Who.{Who}
 use Rattle.fam_model.specs.declared.reply.PieceAnswer.{PieceAnswer}
 use Rattle.fam_model.specs.Limits.{service_limits}
-use Rattle.fam_model.specs.PieceStep.{due_answer, may_answer, bytes_found, is_refused, memory_by_kind}
-use Rattle.fam_model.specs.Rules.{is_due}
+use Rattle.fam_model.specs.PieceStep.{due_answer, may_answer, bytes_found}
 use Rattle.fam_program.specs.Parts.{may_collect, collected_step}
 use Rattle.fam_program.specs.declared.tracked.TrackedProgram.{TrackedProgram}
 use Rattle.fam_machine.specs.Collected.{collected_answer}

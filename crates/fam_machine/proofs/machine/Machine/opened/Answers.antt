@@ -1,8 +1,8 @@
-use Rattle.std.proofs.Common.{rules, ◌≡◌, sym, subst}
+use Rattle.std.proofs.Common.{◌≡◌, sym, subst}
 use Rattle.fam_model.specs.declared.state.State.{State}
 use Rattle.fam_model.specs.Opened.{opened}
 use Rattle.fam_machine.specs.Sound.{IsSound}
-use Rattle.fam_machine.specs.Views.{state_of, states_of}
+use Rattle.fam_machine.specs.Views.{states_of}
 use Rattle.fam_machine.proofs.Opening.{opened_sound}
 use Rattle.fam_machine.proofs.machine.Machine.opened.Goals as goal
 

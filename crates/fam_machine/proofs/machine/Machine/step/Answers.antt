@@ -1,5 +1,5 @@
-use Rattle.std.proofs.Common.{rules, ◌≡◌, true, sym, ◌∙◌}
-use Rattle.fam_machine.specs.Views.{state_of, turn_at}
+use Rattle.std.proofs.Common.{sym, ◌∙◌}
+use Rattle.fam_machine.specs.Views.{state_of}
 use Rattle.fam_machine.proofs.Steps.{stepped, still_sound}
 use Rattle.fam_machine.proofs.machine.Machine.step.Goals as goal
 
