@@ -13,6 +13,8 @@ mod parts;
 mod pieces;
 mod plain;
 mod refused;
+#[cfg(test)]
+mod tests;
 
 pub use error::StepError;
 pub use machine::Machine;
