@@ -1,0 +1,5 @@
+pub mod Effects
+pub mod Sound
+pub mod Views
+pub mod Collected
+pub mod Issuing

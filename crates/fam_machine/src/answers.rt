@@ -1,0 +1,85 @@
+//! What a piece may be answered.
+
+ghost use Rattle.std.specs.Prelude.{◌≡◌, ◌+◌, nat_lt};
+ghost use Rattle.fam_model.specs.Limits.{service_limits};
+ghost use Rattle.fam_model.specs.PieceStep as steps;
+ghost use Rattle.fam_model.specs.Rows.{IsLawful};
+ghost use Rattle.fam_model.specs.Same.{same_answer};
+ghost use Rattle.fam_machine.specs.Sound.{IsMemoryOf, IsSoundPiece};
+
+use crate::memory::{Memory, bytes_found};
+use fam_base::{FamError, Who, allowed};
+use fam_model::{PieceAnswer, PlanKind, PlanPiece, Rows};
+
+/// The entries that one history may have.
+const HISTORY: u128 = 262_144;
+
+/// Whether a history of so many entries has no room for so many more.
+pub fn exceeds_history(used: u64, need: u64) -> bool
+    ensures { result ≡ nat_lt service_limits.history (used + need) }
+{
+    HISTORY < u128::from(used) + u128::from(need)
+}
+
+/// Whether the answer is an error.
+pub fn is_refused(answer: &PieceAnswer) -> bool
+    ensures { result ≡ steps.is_refused answer.now }
+{
+    matches!(answer, PieceAnswer::Refused(_))
+}
+
+/// Whether a piece that finds memory and room is answered so.
+#[tactic(auto, unfolding(fam_model::specs::PieceStep::due_answer))]
+fn is_due(
+    rows: &Rows,
+    memory: &Memory,
+    who: Who,
+    kind: PlanKind,
+    piece: &PlanPiece,
+    given: &PieceAnswer,
+) -> bool
+    requires lawful { IsLawful rows.now }
+    requires filled { IsMemoryOf rows.now.items memory.now }
+    requires sound { IsSoundPiece rows.now piece.now }
+    ensures { result ≡ same_answer given.now (steps.due_answer rows.now memory.now who kind piece.now) }
+{
+    let Some(row) = fam_rows::item(rows, piece.item) else {
+        return *given == PieceAnswer::Refused(FamError::Absent);
+    };
+    let owner = Who {
+        uid: row.uid,
+        gid: row.gid,
+    };
+    if !allowed(owner, row.mode, who, piece.need) {
+        return *given == PieceAnswer::Refused(FamError::NoPermission);
+    }
+    match (kind, given) {
+        (PlanKind::Get | PlanKind::Fetch, PieceAnswer::Data(bytes)) => {
+            bytes.as_slice() == bytes_found(memory, piece)
+        }
+        (PlanKind::Put | PlanKind::Copy, PieceAnswer::Ok) => true,
+        _ => false,
+    }
+}
+
+/// Whether a piece may be answered so: as it is due, or where memory or room is wanting.
+#[tactic(auto, unfolding(fam_model::specs::PieceStep::may_answer))]
+pub fn may_answer(
+    rows: &Rows,
+    memory: &Memory,
+    who: Who,
+    kind: PlanKind,
+    piece: &PlanPiece,
+    given: &PieceAnswer,
+) -> bool
+    requires lawful { IsLawful rows.now }
+    requires filled { IsMemoryOf rows.now.items memory.now }
+    requires sound { IsSoundPiece rows.now piece.now }
+    ensures { result ≡ steps.may_answer service_limits (steps.due_answer rows.now memory.now who kind piece.now) given.now }
+{
+    match given {
+        PieceAnswer::Refused(FamError::Memory) => true,
+        PieceAnswer::Refused(FamError::HistoryFull { used, need }) => exceeds_history(*used, *need),
+        _ => is_due(rows, memory, who, kind, piece, given),
+    }
+}

@@ -1,0 +1,17 @@
+//! The parts of the machine.
+
+use crate::memory::Memory;
+use fam_base::Sequence;
+use fam_layout::Layout;
+use fam_model::Rows;
+use fam_program::Program;
+
+/// All that the machine has.
+#[derive(Drop)]
+pub struct Parts {
+    pub layout: Layout,
+    pub rows: Rows,
+    pub memory: Memory,
+    pub round: u64,
+    pub programs: Sequence<Program>,
+}
