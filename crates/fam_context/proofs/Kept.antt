@@ -35,7 +35,7 @@ use Rattle.fam_context.proofs.Places.{changed_at, frames_set, frames_reported, o
 
 -- one operation
 
-sum_none : {A : Type 0} (xs : List A) → sum_by (λ x. 0) xs ≡ 0
+pub sum_none : {A : Type 0} (xs : List A) → sum_by (λ x. 0) xs ≡ 0
 sum_none [] = refl
 sum_none (x ∷ xs) = sum_by-cons (λ y. 0) x xs ∙ omega (arith, sum_none xs)
 

@@ -5,3 +5,4 @@ pub mod Kept
 pub mod Searches
 pub mod Nexts
 pub mod Reached
+pub mod Told

@@ -1,6 +1,6 @@
 -- What is kept beside operations.
-use Rattle.std.specs.Prelude.{◌≡◌, ◌≢◌, ℕ, ◌+◌, min, get_or, ◌==◌, ◌<◌, ◌≤◌, ◌^◌, Bool, true, false, not, ◌&&◌, List, map, length, slice_get, replicate, Some, sum_by}
-use Rattle.std.specs.List.{AllZip, position_or_len}
+use Rattle.std.specs.Prelude.{◌≡◌, ◌≢◌, ℕ, ◌+◌, min, get_or, ◌==◌, ◌<◌, ◌≤◌, ◌^◌, Bool, true, false, not, ◌&&◌, List, map, length, take, slice_get, replicate, Some, sum_by}
+use Rattle.std.specs.List.{AllZip, list_all, position_or_len}
 use Rattle.fam_model.specs.Operations.{has_left}
 use Rattle.fam_model.specs.declared.piece.Mark.{Mark}
 use Rattle.fam_model.specs.declared.piece.Mark.TheVariants as mark
@@ -86,3 +86,13 @@ pub record AreIdleBut (sides : List Side) (first at : ℕ) : Type 0 where
 pub record IsIndexed (context : Context) (sides : List Side) (pending : Pending) (pieces first : ℕ) : Type 0 where
   pub kept : IsKept context sides pending pieces
   pub reached : first ≡ position_or_len has_left context.operations
+
+-- the results of all operations before this place were told
+pub record AreTold (operations : List Operation) (told : ℕ) : Type 0 where
+  pub within : told ≤ length operations
+  pub before : list_all (λ operation. operation.reported) (take told operations) ≡ true
+
+-- what holds of the fields of a context, with a place before which all results were told
+pub record IsSettled (context : Context) (sides : List Side) (pending : Pending) (pieces first told : ℕ) : Type 0 where
+  pub indexed : IsIndexed context sides pending pieces first
+  pub settled : AreTold context.operations told

@@ -1,11 +1,11 @@
 //! How calls change an operation and the flags of its pieces.
 
-ghost use Rattle.std.specs.Prelude.{◌≡◌, ◌<◌, ◌^◌, ◌++◌, ◌∷◌, ◌||◌, [], false, IsFalse, map, replicate, slice_get, IsTrue, IfOk, OnOk, OnErr};
+ghost use Rattle.std.specs.Prelude.{◌≡◌, ◌<◌, ◌≤◌, ◌^◌, ◌++◌, ◌∷◌, ◌||◌, [], false, IsFalse, length, map, take, replicate, slice_get, IsTrue, IfOk, OnOk, OnErr};
 ghost use Rattle.fam_model.specs.IssueStep.{left_piece};
 ghost use Rattle.fam_model.specs.Lists.{is_some_and, change_place};
 ghost use Rattle.fam_model.specs.PieceStep.{is_copy_read};
 ghost use Rattle.fam_context.specs.Effects.{handed_over, may_answer, with_bytes, with_pieces, planned_operation, with_collected, with_lost, with_one_more};
-ghost use Rattle.fam_context.specs.Sides.{IsSideOf, IsFresh, held_only, told_side};
+ghost use Rattle.fam_context.specs.Sides.{AreTold, IsSideOf, IsFresh, held_only, told_side};
 ghost use Rattle.fam_model.specs.Operations as operations;
 ghost use Rattle.fam_model.specs.Operations.{as_reported, is_copy};
 
@@ -234,27 +234,32 @@ pub(crate) fn add(
     Ok(())
 }
 
-/// Marks all these as reported.
-pub(crate) fn report_all(operations: &mut Sequence<Operation>)
+/// Marks all these as reported, where those before a place are.
+pub(crate) fn report_all(operations: &mut Sequence<Operation>, told: usize)
+    requires { AreTold operations.old told }
     ensures { operations.new ≡ map as_reported operations.old }
 {
-    for at in 0..operations.len() {
+    for at in told..operations.len() {
         operations.at_mut(at).reported = true;
     }
 }
 
-/// None of the pieces counts as done any more.
-pub(crate) fn tell_each(sides: &mut Vec<Side>)
+/// None of the pieces counts as done any more, where those before a place do not.
+pub(crate) fn tell_each(sides: &mut Vec<Side>, told: usize)
+    requires within { told ≤ length sides.old.items }
+    requires before { take told sides.old.items ≡ map told_side (take told sides.old.items) }
     ensures { sides.new.items ≡ map told_side sides.old.items }
 {
-    tell_all(sides.as_mut_slice());
+    tell_all(sides.as_mut_slice(), told);
 }
 
 /// The same of a slice.
-fn tell_all(sides: &mut [Side])
+fn tell_all(sides: &mut [Side], told: usize)
+    requires within { told ≤ length sides.old }
+    requires before { take told sides.old ≡ map told_side (take told sides.old) }
     ensures { sides.new ≡ map told_side sides.old }
 {
-    for side in sides.iter_mut() {
-        side.counts.done = 0;
+    for at in told..sides.len() {
+        sides[at].counts.done = 0;
     }
 }

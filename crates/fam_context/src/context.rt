@@ -1,6 +1,6 @@
 //! A context.
 
-ghost use Rattle.std.specs.List.{list_all};
+ghost use Rattle.std.specs.List.{list_all, position_or_len};
 ghost use Rattle.std.specs.Prelude.{◌≡◌, ◌&&◌, nat_lt, ◌<◌, ◌+◌, ◌^◌, false, [], map, length, option_copied, option_map, IsTrue, IsFalse, IsSome, IsOk, IfOk, OnOk, OnErr, MatchOption, All, not};
 
 use crate::changes::{
@@ -12,7 +12,7 @@ use crate::tracked::Pending;
 use crate::{results, words};
 use fam_base::{NoMemory, Sequence};
 use fam_layout::Plan;
-use fam_model::{PieceAnswer, PlanKind, PlanPiece, Reply};
+use fam_model::{Operation, PieceAnswer, PlanKind, PlanPiece, Reply};
 use std::alloc::Global;
 use std::marker::Model;
 
@@ -36,6 +36,7 @@ pub struct Context {
     pending: Pending,
     pieces: u64,
     first: usize,
+    told: usize,
 }
 
 impl Model for Context {
@@ -44,11 +45,11 @@ impl Model for Context {
     ghost Value = { Tracked };
 
     ghost use Rattle.fam_context.specs.Order.{tracked};
-    ghost use Rattle.fam_context.specs.Sides.{IsIndexed, flags_of};
+    ghost use Rattle.fam_context.specs.Sides.{IsSettled, flags_of};
 
     ghost view = { λ c. tracked c.context (flags_of c.sides.items) };
 
-    ghost invariant = { λ c. IsIndexed c.context c.sides.items c.pending c.pieces c.first };
+    ghost invariant = { λ c. IsSettled c.context c.sides.items c.pending c.pieces c.first c.told };
 }
 
 impl Context {
@@ -78,6 +79,7 @@ impl Context {
             pending: NONE,
             pieces: 0,
             first: 0,
+            told: 0,
         }
     }
 
@@ -96,6 +98,7 @@ impl Context {
             pending: NONE,
             pieces: 0,
             first: 0,
+            told: 0,
         }
     }
 
@@ -111,6 +114,7 @@ impl Context {
         self.pending = NONE;
         self.pieces = 0;
         self.first = 0;
+        self.told = 0;
     }
 
     /// The context is not open any more. Its operations stay.
@@ -147,6 +151,48 @@ impl Context {
         ensures { result ≡ operations.is_pending self.now.context }
     {
         words::is_pending(&self.context, self.first)
+    }
+
+    /// Its operations, in order of their calls' numbers.
+    pub fn operations(&self) -> &[Operation]
+        ensures value { result.now ≡ self.now.context.operations }
+        ensures ordered { IsOrdered self.now }
+    {
+        self.context.operations.as_slice()
+    }
+
+    /// The place of the first operation with a piece left, and the number of operations where there is none.
+    pub fn front(&self) -> usize
+        ensures { result ≡ position_or_len operations.has_left self.now.context.operations }
+    {
+        self.first
+    }
+
+    /// The place of the operation of a call.
+    pub fn place_of(&self, call: u64) -> Option<usize>
+        ensures { result ≡ place_of call_number call self.now.context.operations }
+    {
+        words::place_of(&self.context, call)
+    }
+
+    /// The result of an operation. It is told to nobody by this.
+    pub fn result_of(&self, call: u64) -> Result<Reply, NoMemory>
+        requires { IsTrue (has_operation self.now.context call) }
+        ensures { IfOk result (λ reply. option_map operations.result (operation_of self.now.context call) ≡ Some reply) }
+    {
+        match words::find(&self.context, call) {
+            Some(operation) => results::result(self.alloc, operation),
+            None => unreachable!(),
+        }
+    }
+
+    /// The report of all nonblocking operations that were not reported yet. They are told to nobody by this.
+    pub fn report_of(&self) -> Result<Reply, NoMemory>
+        ensures { IfOk result (λ reply. reply ≡ operations.report self.now.context) }
+    {
+        let untold = results::untold(self.context.operations.as_slice(), self.told);
+        let results = results::results_of(self.alloc, untold)?;
+        Ok(Reply::Report(results))
     }
 
     /// Whether there is an operation of the call.
@@ -243,7 +289,7 @@ impl Context {
     pub fn report_is(&self, given: &Reply) -> bool
         ensures { result ≡ same_reply given.now (operations.report self.now.context) }
     {
-        results::is_report(&self.context, given)
+        results::is_report(&self.context, self.told, given)
     }
 
     /// A new operation, with all its pieces left and none out. After want of memory all is as it was.
@@ -352,9 +398,10 @@ impl Context {
     pub fn mark_reported(&mut self)
         ensures { self.new ≡ effects.reported self.old }
     {
-        report_all(&mut self.context.operations);
-        tell_each(&mut self.sides);
+        report_all(&mut self.context.operations, self.told);
+        tell_each(&mut self.sides, self.told);
         self.pending.done = 0;
+        self.told = self.context.operations.len();
     }
 
     /// Whether the piece may come and is not out.
@@ -396,7 +443,8 @@ impl Context {
         ensures ok { IfOk result (λ reply. (reply ≡ operations.report self.old.context) × (self.new ≡ effects.reported self.old)) }
         ensures err { OnErr result (self.new ≡ self.old) }
     {
-        let results = results::results_of(self.alloc, self.context.operations.as_slice())?;
+        let untold = results::untold(self.context.operations.as_slice(), self.told);
+        let results = results::results_of(self.alloc, untold)?;
         self.mark_reported();
         Ok(Reply::Report(results))
     }

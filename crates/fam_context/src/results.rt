@@ -1,7 +1,7 @@
 //! What is told of operations: their results and reports.
 
 ghost use Rattle.std.specs.Prelude.{◌≡◌, ◌+◌, ◌≤◌, ◌++◌, true, length, take, drop, slice_index, IfOk};
-ghost use Rattle.fam_context.specs.Sides.{is_get, needed};
+ghost use Rattle.fam_context.specs.Sides.{is_get, needed, AreTold};
 ghost use Rattle.std.specs.List.{flat_map};
 ghost use Rattle.std.specs.Option.{option_copied};
 ghost use Rattle.std.specs.Int.{w32, w64, w128, from_le_bytes};
@@ -235,13 +235,23 @@ fn are_results_of(given: &[OpResult], all: &[Operation]) -> bool
     rest.is_empty()
 }
 
+/// The operations from a place on before which all were told: a report is of them alone.
+pub(crate) fn untold(all: &[Operation], told: usize) -> &[Operation]
+    requires { AreTold all.now told }
+    ensures { results_of result.now ≡ results_of all.now }
+{
+    &all[told..]
+}
+
 /// Whether this is the report of the context.
-pub(crate) fn is_report(context: &Context, given: &Reply) -> bool
+pub(crate) fn is_report(context: &Context, told: usize, given: &Reply) -> bool
+    requires { AreTold context.now.operations told }
     ensures { result ≡ same_reply given.now (operations.report context.now) }
 {
     match given {
         Reply::Report(results) => {
-            are_results_of(results.as_slice(), context.operations.as_slice())
+            let untold = untold(context.operations.as_slice(), told);
+            are_results_of(results.as_slice(), untold)
         }
         _ => false,
     }
@@ -292,6 +302,24 @@ pub(crate) fn results_of(alloc: Global, all: &[Operation]) -> Result<Sequence<Op
         }
     }
     Ok(told)
+}
+
+/// The result of an operation.
+#[tactic(auto, using(crate::proofs::Telling::result_by_first))]
+pub(crate) fn result(alloc: Global, operation: &Operation) -> Result<Reply, NoMemory>
+    ensures { IfOk result (λ reply. reply ≡ operations.result operation.now) }
+{
+    if let Some(error) = first_refusal(operation) {
+        return Ok(Reply::Error(error));
+    }
+    match operation.kind {
+        PlanKind::Put | PlanKind::Copy => Ok(Reply::Done),
+        PlanKind::Get => {
+            let bytes = all_bytes(alloc, operation.pieces.as_slice())?;
+            Ok(Reply::Bytes(bytes))
+        }
+        PlanKind::Fetch => Ok(Reply::Value(old_number(operation.pieces.as_slice()))),
+    }
 }
 
 /// Writes a part into the room from a place on.

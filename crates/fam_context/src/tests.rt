@@ -136,6 +136,41 @@ fn reports_in_order_of_call(rt: HostRuntime) -> Result<(), Fail> {
     Ok(())
 }
 
+/// Each report tells what was issued since the one before, and what was answered by itself is in none.
+#[test]
+fn reports_each_call_once(rt: HostRuntime) -> Result<(), Fail> {
+    let alloc = rt.alloc();
+    let mut context = Context::new(alloc);
+    for call in [0u64, 1, 2] {
+        issue(&rt, alloc, &mut context, 3 * call, PlanKind::Put, 1, false)?;
+        issue(
+            &rt,
+            alloc,
+            &mut context,
+            3 * call + 1,
+            PlanKind::Put,
+            1,
+            true,
+        )?;
+        collect(&rt, &mut context, 3 * call, 0, PieceAnswer::Ok);
+        collect(&rt, &mut context, 3 * call + 1, 0, PieceAnswer::Ok);
+        assert!(&rt; context.may_tell(3 * call + 1));
+        assert!(&rt; context.answer(3 * call + 1) == Reply::Done);
+        let mut want = Sequence::new(alloc);
+        want.push(OpResult {
+            call: 3 * call,
+            answer: PieceAnswer::Ok,
+        })?;
+        let want = Reply::Report(want);
+        assert!(&rt; context.report_is(&want));
+        assert!(&rt; context.report_of()? == want);
+        assert!(&rt; !context.is_pending());
+        assert!(&rt; context.report()? == want);
+    }
+    assert!(&rt; context.report_of()? == Reply::Report(Sequence::new(alloc)));
+    Ok(())
+}
+
 #[test]
 fn a_get_comes_in_order_of_its_pieces(rt: HostRuntime) -> Result<(), Fail> {
     let alloc = rt.alloc();

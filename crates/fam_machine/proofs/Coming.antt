@@ -78,10 +78,12 @@ pub record Finds (parts : Parts) (pe call j : ℕ) (p : TrackedProgram) (given_b
   pub gives : option_map (λ at. at.operation.kind) (placed p.state call) ≡ Some given_back
   pub finds : option_map (λ m. m.piece) (piece_of p.state call j) ≡ Some piece
 
-kind_at : (parts : Parts) (pe call j : ℕ) (p : TrackedProgram) (given_back : PlanKind) (piece : PlanPiece) → Finds parts pe call j p given_back piece → (due : IsDueAt p.state call j) → due.at.operation.kind ≡ given_back
+-- it is that of its operation
+pub kind_at : (parts : Parts) (pe call j : ℕ) (p : TrackedProgram) (given_back : PlanKind) (piece : PlanPiece) → Finds parts pe call j p given_back piece → (due : IsDueAt p.state call j) → due.at.operation.kind ≡ given_back
 kind_at parts pe call j p given_back piece found due = same_Some _ given_back (ap (option_map (λ (at : Placed). at.operation.kind)) (sym due.there) ∙ found.gives)
 
-same_piece : (parts : Parts) (pe call j : ℕ) (p : TrackedProgram) (given_back : PlanKind) (piece : PlanPiece) → Finds parts pe call j p given_back piece → (due : IsDueAt p.state call j) → due.left.piece ≡ piece
+-- and the piece is that of its place
+pub same_piece : (parts : Parts) (pe call j : ℕ) (p : TrackedProgram) (given_back : PlanKind) (piece : PlanPiece) → Finds parts pe call j p given_back piece → (due : IsDueAt p.state call j) → due.left.piece ≡ piece
 same_piece parts pe call j p given_back piece found due = same_Some _ piece (ap (option_map (λ (m : MarkedPiece). m.piece)) (sym (piece_at p.state call j due)) ∙ found.finds)
 
 -- the piece is sound

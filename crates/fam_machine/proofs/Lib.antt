@@ -14,5 +14,6 @@ pub mod Members
 pub mod Taking
 pub mod Collecting
 pub mod Coming
+pub mod Due
 pub mod Deciding
 pub mod Steps

@@ -1,5 +1,5 @@
 -- What contracts see of the machine.
-use Rattle.std.specs.Prelude.{◌≡◌, ℕ, Bool, Result, Ok, Err, nat_lt, true, false, List, map, Option, Some, None}
+use Rattle.std.specs.Prelude.{◌≡◌, ℕ, Bool, Result, Ok, Err, nat_lt, true, false, List, map, slice_get, Option, Some, None}
 use Rattle.std.specs.List.{enumerate_from}
 use Rattle.std.specs.Option.{option_map, option_map_or}
 use Rattle.fam_base.specs.declared.naming.Who.{Who}
@@ -7,6 +7,7 @@ use Rattle.fam_model.specs.declared.change.Change.{Change}
 use Rattle.fam_model.specs.declared.event.Event.{Event}
 use Rattle.fam_model.specs.declared.event.What.{What}
 use Rattle.fam_model.specs.declared.event.What.TheVariants as what
+use Rattle.fam_model.specs.declared.reply.PieceAnswer.{PieceAnswer}
 use Rattle.fam_model.specs.declared.rows.Rows.{Rows}
 use Rattle.fam_model.specs.declared.state.ProgramState.{ProgramState}
 use Rattle.fam_model.specs.declared.service.Service.{Service}
@@ -15,13 +16,13 @@ use Rattle.fam_model.specs.ContextStep.{answer_step, open_step, fence_step, quie
 use Rattle.fam_model.specs.EndStep.{arrive_step, leave_step, crash_step}
 use Rattle.fam_model.specs.IssueStep.{issue_step}
 use Rattle.fam_model.specs.Opened.{new_program}
-use Rattle.fam_model.specs.PieceStep.{entry_number, lose_step}
+use Rattle.fam_model.specs.PieceStep.{due_answer, entry_number, lose_step}
 use Rattle.fam_model.specs.RefusedStep.{refused_step}
 use Rattle.fam_model.specs.Directory.{after, memory_after, Memory}
 use Rattle.fam_model.specs.Limits.{service_limits}
-use Rattle.fam_model.specs.Lists.{◌>>=◌, is_some_and, find_number}
-use Rattle.fam_model.specs.Programs.{program_of}
-use Rattle.fam_model.specs.Rules.{rule_of, broken_rule}
+use Rattle.fam_model.specs.Lists.{◌>>=◌, when, is_some_and, find_number}
+use Rattle.fam_model.specs.Programs.{program_of, placed}
+use Rattle.fam_model.specs.Rules.{is_due, rule_of, broken_rule}
 use Rattle.fam_model.specs.Step.{effect, step}
 use Rattle.fam_model.specs.Turn.{is_in_turn}
 use Rattle.fam_program.specs.declared.tracked.TrackedProgram.{TrackedProgram}
@@ -65,6 +66,17 @@ effect_at state pe call made = program_of state pe >>= λ p. effect service_limi
 -- the rule that stands over an event of the program of a number
 abbrev pub rule_at : State → ℕ → ℕ → What → ℕ
 rule_at state pe call made = option_map_or (λ p. rule_of p call made) (program_of state pe) 1
+
+-- pieces
+
+-- The answer that a piece of the program of a number is due, by the rows and the bytes as they are. None where there is
+-- no such piece, or it may not come now.
+abbrev pub due_at : State → ℕ → ℕ → ℕ → Option PieceAnswer
+due_at state pe call piece = do
+  p ← program_of state pe
+  at ← placed p call
+  left ← slice_get at.operation.pieces piece
+  when (is_due p call piece) (due_answer state.rows state.memory p.who at.operation.kind left.piece)
 
 -- events of which the barrier hears
 

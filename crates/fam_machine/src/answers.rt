@@ -1,6 +1,6 @@
 //! What a piece may be answered.
 
-ghost use Rattle.std.specs.Prelude.{◌≡◌, ◌+◌, nat_lt};
+ghost use Rattle.std.specs.Prelude.{◌≡◌, ◌+◌, nat_lt, IfOk};
 ghost use Rattle.fam_model.specs.Limits.{service_limits};
 ghost use Rattle.fam_model.specs.PieceStep as steps;
 ghost use Rattle.fam_model.specs.Rows.{IsLawful};
@@ -8,8 +8,9 @@ ghost use Rattle.fam_model.specs.Same.{same_answer};
 ghost use Rattle.fam_machine.specs.Sound.{IsMemoryOf, IsSoundPiece};
 
 use crate::memory::{Memory, bytes_found};
-use fam_base::{FamError, Who, allowed};
+use fam_base::{FamError, NoMemory, Sequence, Who, allowed};
 use fam_model::{PieceAnswer, PlanKind, PlanPiece, Rows};
+use std::alloc::Global;
 
 /// The entries that one history may have.
 const HISTORY: u128 = 262_144;
@@ -81,5 +82,44 @@ pub fn may_answer(
         PieceAnswer::Refused(FamError::Memory) => true,
         PieceAnswer::Refused(FamError::HistoryFull { used, need }) => exceeds_history(*used, *need),
         _ => is_due(rows, memory, who, kind, piece, given),
+    }
+}
+
+/// What is told of a piece that is served, which found these bytes.
+fn served_answer(alloc: Global, kind: PlanKind, found: &[u8]) -> Result<PieceAnswer, NoMemory>
+    ensures { IfOk result (λ given. given ≡ steps.served_answer kind found.now) }
+{
+    match kind {
+        PlanKind::Get | PlanKind::Fetch => Ok(PieceAnswer::Data(Sequence::of(alloc, found)?)),
+        PlanKind::Put | PlanKind::Copy => Ok(PieceAnswer::Ok),
+    }
+}
+
+/// The answer that a piece is due which finds memory and room.
+#[tactic(auto, unfolding(fam_model::specs::PieceStep::due_answer))]
+pub fn due_answer(
+    alloc: Global,
+    rows: &Rows,
+    memory: &Memory,
+    who: Who,
+    kind: PlanKind,
+    piece: &PlanPiece,
+) -> Result<PieceAnswer, NoMemory>
+    requires lawful { IsLawful rows.now }
+    requires filled { IsMemoryOf rows.now.items memory.now }
+    requires sound { IsSoundPiece rows.now piece.now }
+    ensures { IfOk result (λ given. given ≡ steps.due_answer rows.now memory.now who kind piece.now) }
+{
+    let Some(row) = fam_rows::item(rows, piece.item) else {
+        return Ok(PieceAnswer::Refused(FamError::Absent));
+    };
+    let owner = Who {
+        uid: row.uid,
+        gid: row.gid,
+    };
+    if allowed(owner, row.mode, who, piece.need) {
+        served_answer(alloc, kind, bytes_found(memory, piece))
+    } else {
+        Ok(PieceAnswer::Refused(FamError::NoPermission))
     }
 }

@@ -2,7 +2,8 @@
 
 ghost use Rattle.std.specs.Prelude.{◌≡◌, ◌↔◌, ◌<◌, ◌≤◌, All, length, map, is_some, IfOk, IsTrue};
 ghost use Rattle.std.specs.List.{enumerate_from};
-ghost use Rattle.std.specs.Option.{option_copied};
+ghost use Rattle.std.specs.Option.{option_copied, option_map};
+ghost use Rattle.fam_model.specs.Programs.{program_of};
 ghost use Rattle.fam_model.specs.Limits.{nobody};
 ghost use Rattle.fam_model.specs.Opened as opening;
 ghost use Rattle.fam_model.specs.Rows.{IsLawful, item_of};
@@ -10,18 +11,18 @@ ghost use Rattle.fam_model.specs.Services.{is_service};
 ghost use Rattle.fam_machine.specs.Effects.{Takes};
 ghost use Rattle.fam_machine.specs.Sound.{HasModes, IsSound};
 ghost use Rattle.fam_machine.specs.Views as views;
-ghost use Rattle.fam_machine.specs.Views.{state_of, turn_at, effect_at, rule_at};
+ghost use Rattle.fam_machine.specs.Views.{state_of, due_at, turn_at, effect_at, rule_at};
 
 use crate::ends::member;
 use crate::error::StepError;
 use crate::memory::{bytes_of, zero_memory};
 use crate::meta::{meta, mode_bits};
 use crate::parts::Parts;
-use crate::pieces::piece;
+use crate::pieces::{due_answer, piece};
 use crate::plain::plain;
 use fam_base::{Bytes, ItemId, NoMemory, Sequence, Who};
 use fam_layout::Layout;
-use fam_model::{Event, Rows, Service, What};
+use fam_model::{Event, PieceAnswer, Rows, Service, What};
 use fam_program::Program;
 use std::alloc::Global;
 use std::marker::Model;
@@ -89,6 +90,48 @@ impl Machine {
             return Err(StepError::Illegal(1));
         }
         take(self.alloc, &mut self.parts, pe, event.call, &event.what)
+    }
+
+    /// What each program has. Contracts see its state.
+    pub fn program(&self, pe: u32) -> Option<&Program>
+        ensures { option_map (λ p. p.state) (option_copied result) ≡ program_of self.now pe }
+    {
+        self.parts.programs.get(pe as usize)
+    }
+
+    /// What a piece would be answered now, if memory and the history of its stripe have room. None exactly where
+    /// there is no such piece, or it may not come now. The machine stays as it is.
+    pub fn due_answer(
+        &self,
+        pe: u32,
+        call: u64,
+        piece: u32,
+    ) -> Result<Option<PieceAnswer>, NoMemory>
+        ensures { IfOk result (λ due. due ≡ due_at self.now pe call piece) }
+    {
+        due_answer(self.alloc, &self.parts, pe as usize, call, piece)
+    }
+
+    /// How many programs there are.
+    pub fn programs(&self) -> usize
+        ensures { result ≡ length self.now.programs }
+    {
+        self.parts.programs.len()
+    }
+
+    /// The round of the barrier.
+    pub fn round(&self) -> u64
+        ensures { result ≡ self.now.round }
+    {
+        self.parts.round
+    }
+
+    /// Where bytes lie.
+    pub fn layout(&self) -> &Layout
+        ensures value { result.now ≡ self.now.service }
+        ensures sound { IsSound self.now }
+    {
+        &self.parts.layout
     }
 
     /// The directory.

@@ -8,9 +8,9 @@ ghost use Rattle.fam_model.specs.declared.event.What.TheVariants as what;
 ghost use Rattle.fam_machine.specs.Collected as words;
 ghost use Rattle.fam_machine.specs.Effects.{Takes};
 ghost use Rattle.fam_machine.specs.Sound.{IsSound, is_sound_kind};
-ghost use Rattle.fam_machine.specs.Views.{state_of, effect_at, rule_at};
+ghost use Rattle.fam_machine.specs.Views.{state_of, due_at, effect_at, rule_at};
 
-use crate::answers::{is_refused, may_answer};
+use crate::answers::{self, is_refused, may_answer};
 use crate::error::StepError;
 use crate::memory::{self, Memory, bytes_found};
 use crate::parts::Parts;
@@ -57,6 +57,29 @@ fn serve(alloc: Global, memory: &mut Memory, piece: &PlanPiece, given: &PieceAns
     if !is_refused(given) {
         memory::serve(alloc, memory, piece);
     }
+}
+
+/// The answer that a piece is due. None exactly where it is not there or may not come now.
+pub fn due_answer(
+    alloc: Global,
+    parts: &Parts,
+    pe: usize,
+    call: u64,
+    j: u32,
+) -> Result<Option<PieceAnswer>, NoMemory>
+    requires sound { IsSound (state_of parts.now) }
+    ensures { IfOk result (λ due. due ≡ due_at (state_of parts.now) pe call j) }
+{
+    let Some(program) = parts.programs.get(pe) else {
+        return Ok(None);
+    };
+    if !program.may_come(call, j) {
+        return Ok(None);
+    }
+    let kind = program.kind(call);
+    let left = program.piece(call, j);
+    let answer = answers::due_answer(alloc, &parts.rows, &parts.memory, program.who(), kind, left)?;
+    Ok(Some(answer))
 }
 
 /// A piece.

@@ -1,3 +1,6 @@
+mod pieces;
+mod rules;
+
 use crate::{Machine, StepError};
 use fam_base::{
     Bytes, Descriptor, FamError, ItemId, Mode, NoMemory, PeId, RegionId, Sequence, Who,
@@ -128,13 +131,25 @@ impl Play {
         number: u64,
         base: u64,
     ) -> Result<(), NoMemory> {
+        self.sized_item(call, slot, name, (number, base, 64))
+    }
+
+    /// An item of region 1 in a slot, by its number, base and size.
+    fn sized_item(
+        &mut self,
+        call: u64,
+        slot: u8,
+        name: &[u8],
+        place: (u64, u64, u64),
+    ) -> Result<(), NoMemory> {
+        let (number, base, size) = place;
         let Some(mode) = Mode::of(384) else {
             return Ok(());
         };
         let asked = MetaCall::Allocate {
             slot,
             name: Bytes::of(self.alloc, name)?,
-            size: 64,
+            size,
             mode,
             region: 1,
         };
@@ -142,8 +157,18 @@ impl Play {
             item: ItemId(number),
             region: RegionId(1),
             base,
-            size: 64,
+            size,
         });
+        self.add(0, call, What::Meta { call: asked, reply })
+    }
+
+    /// The item of slot 1 is closed to all.
+    fn shut(&mut self, call: u64) -> Result<(), NoMemory> {
+        let Some(mode) = Mode::of(0) else {
+            return Ok(());
+        };
+        let asked = MetaCall::SetItemMode { slot: 1, mode };
+        let reply = Reply::Done;
         self.add(0, call, What::Meta { call: asked, reply })
     }
 
@@ -156,34 +181,71 @@ impl Play {
                 answer: PieceAnswer::Ok,
             })?;
         }
+        self.report(call, results)
+    }
+
+    /// A quiet that reports one call, which was refused.
+    fn quiet_refused(&mut self, call: u64, named: u64, error: FamError) -> Result<(), NoMemory> {
+        let mut results = Sequence::new(self.alloc);
+        results.push(OpResult {
+            call: named,
+            answer: PieceAnswer::Refused(error),
+        })?;
+        self.report(call, results)
+    }
+
+    fn report(&mut self, call: u64, results: Sequence<OpResult>) -> Result<(), NoMemory> {
         let reply = Reply::Report(results);
         self.add(0, call, What::Quiet { context: 0, reply })
+    }
+
+    /// Waits for a copy that is done.
+    fn wait(&mut self, call: u64, named: u64) -> Result<(), NoMemory> {
+        let reply = Reply::Done;
+        self.add(
+            0,
+            call,
+            What::Wait {
+                context: 0,
+                named,
+                reply,
+            },
+        )
     }
 
     fn fence(&mut self, call: u64) -> Result<(), NoMemory> {
         self.add(0, call, What::Fence { context: 0 })
     }
 
-    fn copy(&mut self, call: u64) -> Result<(), NoMemory> {
+    /// A copy in the common item to one byte further on.
+    fn copy(&mut self, call: u64, count: u64) -> Result<(), NoMemory> {
         let op = DataOp::Copy {
             from: 0,
             from_offset: 0,
             to: 0,
             to_offset: 1,
-            count: 2,
+            count,
         };
         self.issue(call, op, false)
     }
 
-    fn atomic(&mut self, call: u64, width: Width, op: Op, a: i128) -> Result<(), NoMemory> {
-        let blocking = matches!(op, Op::FetchMin | Op::Fetch);
+    /// An atomic: a set, or one that gives the old number.
+    fn atomic(
+        &mut self,
+        call: u64,
+        width: Width,
+        op: Op,
+        a: i128,
+        b: i128,
+    ) -> Result<(), NoMemory> {
+        let blocking = !matches!(op, Op::Set);
         let op = DataOp::Atomic {
             item: 0,
-            offset: 8,
+            offset: 16,
             width,
             op,
             a,
-            b: 0,
+            b,
         };
         self.issue(call, op, blocking)
     }
@@ -236,20 +298,12 @@ fn copied(alloc: Global, last: u8) -> Result<Option<(u64, u8)>, NoMemory> {
     let mut play = Play::new(alloc)?;
     play.put(0, 0, 0, &[1, 2])?;
     play.served(0, 0)?;
-    play.copy(1)?;
+    play.copy(1, 2)?;
     play.served(1, 0)?;
     play.put(2, 0, 0, &[9, 9])?;
     play.served(2, 0)?;
     play.served(1, 1)?;
-    play.add(
-        0,
-        3,
-        What::Wait {
-            context: 0,
-            named: 1,
-            reply: Reply::Done,
-        },
-    )?;
+    play.wait(3, 1)?;
     play.get(4, 0, 0, 3)?;
     play.found(4, 0, &[9, 1, last])?;
     Ok(play.broken)
@@ -269,18 +323,7 @@ fn torn(alloc: Global, first: u8) -> Result<Option<(u64, u8)>, NoMemory> {
     play.item(1, 1, b"x", 1, 0)?;
     play.item(2, 2, b"y", 2, 64)?;
     play.put(3, 1, 0, &[1])?;
-    let Some(mode) = Mode::of(0) else {
-        return Ok(None);
-    };
-    let asked = MetaCall::SetItemMode { slot: 1, mode };
-    play.add(
-        0,
-        4,
-        What::Meta {
-            call: asked,
-            reply: Reply::Done,
-        },
-    )?;
+    play.shut(4)?;
     play.refused(3, 0, FamError::NoPermission)?;
     play.put(5, 2, 0, &[7])?;
     play.served(5, 0)?;
@@ -305,27 +348,6 @@ fn refused_pieces_change_nothing_and_new_items_are_zero(rt: HostRuntime) -> Resu
     Ok(())
 }
 
-/// A number of 64 bits, set to -1 and then changed by an unsigned minimum, which gives this old value.
-fn lessened(alloc: Global, old: i128) -> Result<Option<(u64, u8)>, NoMemory> {
-    let mut play = Play::new(alloc)?;
-    play.atomic(0, Width::I64, Op::Set, -1)?;
-    play.served(0, 0)?;
-    play.atomic(1, Width::U64, Op::FetchMin, 0)?;
-    play.found(1, 0, &[255, 255, 255, 255, 255, 255, 255, 255])?;
-    play.answer(1, Reply::Value(old))?;
-    play.atomic(2, Width::I64, Op::Fetch, 0)?;
-    play.found(2, 0, &[0, 0, 0, 0, 0, 0, 0, 0])?;
-    play.answer(2, Reply::Value(0))?;
-    Ok(play.broken)
-}
-
-#[test]
-fn an_atomic_reads_by_its_own_width(rt: HostRuntime) -> Result<(), Fail> {
-    assert_eq!(rt; lessened(rt.alloc(), 18_446_744_073_709_551_615)?, None);
-    assert_eq!(rt; lessened(rt.alloc(), -1)?, Some((4, 6)));
-    Ok(())
-}
-
 /// A barrier at which program 1 arrives, crashes, or does neither, before program 0 passes.
 fn passed(alloc: Global, other: Option<What>) -> Result<Option<(u64, u8)>, NoMemory> {
     let mut play = Play::new(alloc)?;
@@ -343,121 +365,6 @@ fn a_barrier_waits_for_its_members(rt: HostRuntime) -> Result<(), Fail> {
     assert_eq!(rt; passed(rt.alloc(), Some(What::Arrive))?, None);
     assert_eq!(rt; passed(rt.alloc(), Some(What::Crash))?, None);
     assert_eq!(rt; passed(rt.alloc(), None)?, Some((1, 10)));
-    Ok(())
-}
-
-/// A stat that is refused for want of room, with this error.
-fn wanting(alloc: Global, error: FamError, doubt: bool) -> Result<Option<(u64, u8)>, NoMemory> {
-    let mut play = Play::new(alloc)?;
-    let Some(mode) = Mode::of(448) else {
-        return Ok(None);
-    };
-    let asked = MetaCall::CreateRegion {
-        slot: 1,
-        name: Bytes::of(alloc, b"a")?,
-        size: 4096,
-        mode,
-    };
-    play.full(0, Call::Meta(asked), error, doubt)?;
-    Ok(play.broken)
-}
-
-#[test]
-fn refusals_are_earned(rt: HostRuntime) -> Result<(), Fail> {
-    for (error, doubt, broken) in [
-        (
-            FamError::HistoryFull {
-                used: 262_144,
-                need: 1,
-            },
-            false,
-            None,
-        ),
-        (
-            FamError::HistoryFull {
-                used: 262_143,
-                need: 1,
-            },
-            false,
-            Some((0, 12)),
-        ),
-        (
-            FamError::HistoryFull {
-                used: 262_144,
-                need: 1,
-            },
-            true,
-            Some((0, 12)),
-        ),
-        (
-            FamError::JournalFull {
-                used: 16_777_216,
-                need: 34,
-            },
-            false,
-            None,
-        ),
-        (
-            FamError::JournalFull {
-                used: 16_777_181,
-                need: 34,
-            },
-            false,
-            Some((0, 12)),
-        ),
-        (FamError::DiskFault, true, None),
-        (FamError::DiskFault, false, None),
-        (FamError::NoSpace, false, Some((0, 12))),
-    ] {
-        assert_eq!(rt; wanting(rt.alloc(), error, doubt)?, broken);
-    }
-    Ok(())
-}
-
-/// One event of a fresh machine that breaks a rule.
-fn breaks(alloc: Global, rule: u8) -> Result<Option<(u64, u8)>, NoMemory> {
-    let mut play = Play::new(alloc)?;
-    match rule {
-        1 => play.add(2, 0, What::Fence { context: 0 })?,
-        2 => play.item(0, 1, b"x", 1, 0)?,
-        3 => play.put(0, 0, 4096, &[1])?,
-        4 => play.served(0, 4_294_967_295)?,
-        6 => play.answer(0, Reply::Done)?,
-        7 => play.fence(0)?,
-        8 => play.quiet(0, &[0])?,
-        9 => {
-            let reply = Reply::Done;
-            play.add(
-                0,
-                0,
-                What::Wait {
-                    context: 9,
-                    named: 0,
-                    reply,
-                },
-            )?
-        }
-        _ => play.add(0, 0, What::Lose { piece: 0 })?,
-    }
-    Ok(play.broken)
-}
-
-#[test]
-fn the_rule_of_the_event_is_told(rt: HostRuntime) -> Result<(), Fail> {
-    for (rule, told) in [
-        (1, Some((0, 1))),
-        (2, Some((0, 2))),
-        (3, Some((0, 3))),
-        (4, Some((0, 4))),
-        (6, Some((0, 6))),
-        (7, None),
-        (8, Some((0, 8))),
-        // a context that there is not is no well-formed call
-        (9, Some((0, 1))),
-        (11, Some((0, 11))),
-    ] {
-        assert_eq!(rt; breaks(rt.alloc(), rule)?, told);
-    }
     Ok(())
 }
 

@@ -66,18 +66,18 @@ some_bind o x f e h = rw e h
 pub bind_is : {A B : Type 0} (o : Option A) (x : A) (f : A → Option B) (y : B) → o ≡ Some x → f x ≡ Some y → (o >>= f) ≡ Some y
 bind_is o x f y e h = rw e h
 
-both_true : (a b : Bool) → a ≡ true → b ≡ true → (a && b) ≡ true
+pub both_true : (a b : Bool) → a ≡ true → b ≡ true → (a && b) ≡ true
 both_true a b e f = rw (e, f) refl
 
-not_true : (b : Bool) → b ≡ false → not b ≡ true
+pub not_true : (b : Bool) → b ≡ false → not b ≡ true
 not_true b e = rw e refl
 
-from_not : (b : Bool) → not b ≡ false → b ≡ true
+pub from_not : (b : Bool) → not b ≡ false → b ≡ true
 from_not true e = refl
 from_not false e = cc
 
 -- a call that is refused at once
-refused_goes : (state : State) (pe : ℕ) (p : ProgramState) (asked : Call) (error : FamError) → issue_refusal state.service p asked ≡ Some error → Goes state pe p asked
+pub refused_goes : (state : State) (pe : ℕ) (p : ProgramState) (asked : Call) (error : FamError) → issue_refusal state.service p asked ≡ Some error → Goes state pe p asked
 refused_goes state pe p asked error e = (
   what.Issue asked (reply.Error error),
   rw e refl,
@@ -109,10 +109,10 @@ not_left context call operation h f =
 
 -- each call
 
-opened : (p : ProgramState) (c : ℕ) → not (is_open p c) ≡ false → (context : Context) × (open_context p c ≡ Some context)
+pub opened : (p : ProgramState) (c : ℕ) → not (is_open p c) ≡ false → (context : Context) × (open_context p c ≡ Some context)
 opened p c e = some_is (open_context p c) (from_not (is_open p c) e)
 
-meta_goes : (state : State) (pe : ℕ) (p : ProgramState) (asked : MetaCall) → issue_refusal state.service p (call.Meta asked) ≡ None → Goes state pe p (call.Meta asked)
+pub meta_goes : (state : State) (pe : ℕ) (p : ProgramState) (asked : MetaCall) → issue_refusal state.service p (call.Meta asked) ≡ None → Goes state pe p (call.Meta asked)
 meta_goes state pe p asked none =
     let a = case_none (not (is_some (request_of p asked))) BadHandle [] none in
     let request = some_is (request_of p asked) (from_not (is_some (request_of p asked)) a.0) in
@@ -124,7 +124,7 @@ meta_goes state pe p asked none =
     (some_bind (request_of p asked) request.0 (λ r. when (may_reply state.rows p.who r given.0) (filled (counted p) asked given.0)) request.1
     (some_when (may_reply state.rows p.who request.0 given.0) (filled (counted p) asked given.0) given.2)))
 
-data_goes : (state : State) (pe : ℕ) (p : ProgramState) (c : ℕ) (op : DataOp) (blocking : Bool) → issue_refusal state.service p (call.Data c op blocking) ≡ None →
+pub data_goes : (state : State) (pe : ℕ) (p : ProgramState) (c : ℕ) (op : DataOp) (blocking : Bool) → issue_refusal state.service p (call.Data c op blocking) ≡ None →
     Goes state pe p (call.Data c op blocking)
 data_goes state pe p c op blocking none =
     let asked = call.Data c op blocking in
@@ -143,13 +143,13 @@ data_goes state pe p c op blocking none =
     (ap is_some (ap (λ o. issue_with o state.service p asked reply.Issued) none)
     ∙ some_bind (accepted state.service p asked) next.0 (λ q. when (same_reply reply.Issued reply.Issued) q) next.1 (some_when (same_reply reply.Issued reply.Issued) next.0 (reply_same reply.Issued))))
 
-open_goes : (state : State) (pe : ℕ) (p : ProgramState) (c : ℕ) → issue_refusal state.service p (call.OpenContext c) ≡ None → Goes state pe p (call.OpenContext c)
+pub open_goes : (state : State) (pe : ℕ) (p : ProgramState) (c : ℕ) → issue_refusal state.service p (call.OpenContext c) ≡ None → Goes state pe p (call.OpenContext c)
 open_goes state pe p c none =
     let a = case_none (is_open p c) Exists [] none in
     goes_with state pe p (call.OpenContext c) (what.OpenContext c) none refl
     (some_map _ (open_step p c) (some_when (not (is_open p c)) (with_context (counted p) c new_context) (not_true (is_open p c) a.0)))
 
-fence_goes : (state : State) (pe : ℕ) (p : ProgramState) (c : ℕ) → issue_refusal state.service p (call.Fence c) ≡ None → Goes state pe p (call.Fence c)
+pub fence_goes : (state : State) (pe : ℕ) (p : ProgramState) (c : ℕ) → issue_refusal state.service p (call.Fence c) ≡ None → Goes state pe p (call.Fence c)
 fence_goes state pe p c none =
     let a = case_none (not (is_open p c)) BadHandle [] none in
     let context = opened p c a.0 in
@@ -209,7 +209,7 @@ leave_goes state pe p quiet =
     goes_with state pe p call.Leave what.Leave refl refl
     (some_map _ (leave_step p) (some_when (not (has_pending p)) (record (counted p) { standing = standing.Left }) (not_true (has_pending p) quiet)))
 
-crash_goes : (state : State) (pe : ℕ) (p : ProgramState) → Goes state pe p call.Crash
+pub crash_goes : (state : State) (pe : ℕ) (p : ProgramState) → Goes state pe p call.Crash
 crash_goes state pe p = goes_with state pe p call.Crash what.Crash refl refl refl
 
 served_goes : (state : State) (pe : ℕ) (p : ProgramState) (asked : Call) → has_pending p ≡ false → may_arrive state.round p ≡ true → issue_refusal state.service p asked ≡ None → Goes state pe p asked

@@ -111,7 +111,7 @@ pieces_on service (data_op.Atomic item offset width op a b) from to some =
 
 -- a copy reads and writes in turn
 
-odd_twice : (j : ℕ) → (suc (suc j) % 2 == 1) ≡ (j % 2 == 1)
+pub odd_twice : (j : ℕ) → (suc (suc j) % 2 == 1) ≡ (j % 2 == 1)
 odd_twice j = let same : suc (suc j) % 2 ≡ j % 2 = omega arith in ap (λ n. n == 1) same
 
 same_some : {A : Type 0} (x y : A) → Some x ≡ Some y → x ≡ y
@@ -185,7 +185,7 @@ issued_made service n call epoch op blocking from to lawful low =
 
 -- one operation more
 
-get_last : {A : Type 0} (xs : List A) (y : A) (k : ℕ) (z : A) → slice_get (xs ++ y ∷ []) k ≡ Some z → (k < length xs) ⊎ (length xs ≤ k) → (slice_get xs k ≡ Some z) ⊎ ((k ≡ length xs) × (z ≡ y))
+pub get_last : {A : Type 0} (xs : List A) (y : A) (k : ℕ) (z : A) → slice_get (xs ++ y ∷ []) k ≡ Some z → (k < length xs) ⊎ (length xs ≤ k) → (slice_get xs k ≡ Some z) ⊎ ((k ≡ length xs) × (z ≡ y))
 get_last xs y k z at (inl low) =
     inl (slice_get-get_or xs k z low ∙ ap Some (sym (get_or_append_left xs (y ∷ []) z k low) ∙ get_or_from_slice_get (xs ++ y ∷ []) k z z at))
 get_last xs y k z at (inr high) =

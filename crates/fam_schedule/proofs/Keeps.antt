@@ -45,7 +45,7 @@ length_by : {A : Type 0} (k : ℕ) (change : A → A) (xs : List A) (o : Option 
 length_by k change xs None e = rw e refl
 length_by k change xs (Some x) e = rw e (length-set xs k (change x))
 
-length_changed : {A : Type 0} (k : ℕ) (change : A → A) (xs : List A) → length (change_place k change xs) ≡ length xs
+pub length_changed : {A : Type 0} (k : ℕ) (change : A → A) (xs : List A) → length (change_place k change xs) ≡ length xs
 length_changed k change xs = length_by k change xs (slice_get xs k) refl
 
 -- a piece and its write
@@ -91,14 +91,14 @@ pub record AreChanges (first second : MarkedPiece → MarkedPiece) : Type 0 wher
   pub not_left : (p : MarkedPiece) → is_left (first p) ≡ false
   pub serves : ((p : MarkedPiece) → is_left (second p) ≡ false) ⊎ ((p : MarkedPiece) → is_served (first p).mark ≡ true)
 
-becomes_place : (first second : MarkedPiece → MarkedPiece) (a b : Bool) (p : MarkedPiece) → AreChanges first second →
+pub becomes_place : (first second : MarkedPiece → MarkedPiece) (a b : Bool) (p : MarkedPiece) → AreChanges first second →
     (if b then second (if a then first p else p) else (if a then first p else p)).piece.place ≡ p.piece.place
 becomes_place first second true true p c = c.second_place (first p) ∙ c.first_place p
 becomes_place first second true false p c = c.first_place p
 becomes_place first second false true p c = c.second_place p
 becomes_place first second false false p c = refl
 
-becomes_kind : (first second : MarkedPiece → MarkedPiece) (a b : Bool) (p : MarkedPiece) → AreChanges first second →
+pub becomes_kind : (first second : MarkedPiece → MarkedPiece) (a b : Bool) (p : MarkedPiece) → AreChanges first second →
     (if b then second (if a then first p else p) else (if a then first p else p)).piece.kind ≡ p.piece.kind
 becomes_kind first second true true p c = c.second_kind (first p) ∙ c.first_kind p
 becomes_kind first second true false p c = c.first_kind p
@@ -274,7 +274,7 @@ handed_serves answer.Ok bytes = inr (λ p. refl)
 handed_serves (answer.Data found) bytes = inr (λ p. refl)
 handed_serves (answer.Refused e) bytes = inl (λ p. refl)
 
-answers_change : (given : PieceAnswer) (bytes : List ℕ) → AreChanges (marked (mark.Answered given)) (handed given bytes)
+pub answers_change : (given : PieceAnswer) (bytes : List ℕ) → AreChanges (marked (mark.Answered given)) (handed given bytes)
 answers_change given bytes =
     record {
       first_place = λ p. refl;
@@ -292,7 +292,7 @@ made_answered stripes n o j left given bytes made there =
 
 -- a loss
 
-losses_change : AreChanges (marked mark.Gone) (marked mark.Gone)
+pub losses_change : AreChanges (marked mark.Gone) (marked mark.Gone)
 losses_change =
     record {
       first_place = λ p. refl;

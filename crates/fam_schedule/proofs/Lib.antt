@@ -1,27 +1,27 @@
-mod Options
-mod Told
-mod Moves
-mod Places
-mod Follows
-mod Comes
-mod Tame
-mod Runs
+pub mod Options
+pub mod Told
+pub mod Moves
+pub mod Places
+pub mod Follows
+pub mod Comes
+pub mod Tame
+pub mod Runs
 pub mod Whole
 pub mod Acting
-mod Finding
+pub mod Finding
 pub mod Pending
-mod Keeps
-mod Changes
-mod Issued
+pub mod Keeps
+pub mod Changes
+pub mod Issued
 pub mod Steps
 pub mod Ended
-mod Texts
-mod Lawful
-mod Going
-mod Begins
-mod Rests
-mod Staying
-mod Has
-mod Lives
-mod Living
+pub mod Texts
+pub mod Lawful
+pub mod Going
+pub mod Begins
+pub mod Rests
+pub mod Staying
+pub mod Has
+pub mod Lives
+pub mod Living
 pub mod RunEnds

@@ -193,7 +193,7 @@ placed_there stripes p c k operation made s =
 
 -- such an operation has a piece that may come
 
-number_at : (n k : ℕ) → k < n → slice_get (numbers_below n) k ≡ Some k
+pub number_at : (n k : ℕ) → k < n → slice_get (numbers_below n) k ≡ Some k
 number_at n k low =
     let longer : length (numbers_below n) ≡ n = length-range_with_len 0 n in
     let same : get_or (numbers_below n) k 0 ≡ 0 + k = get_or-range_with_len 0 n k 0 low in

@@ -83,7 +83,7 @@ more : (n : ℕ) → n ≤ n + 1
 more n = omega arith
 
 -- a place that is not there is not set
-set_none : {A : Type 0} (xs : List A) (c : ℕ) (y : A) → slice_get xs c ≡ None → slice_set xs c y ≡ xs
+pub set_none : {A : Type 0} (xs : List A) (c : ℕ) (y : A) → slice_get xs c ≡ None → slice_set xs c y ≡ xs
 set_none xs c y h = by_length (cases_lt c (length xs))
   where
     by_length : (c < length xs) ⊎ (length xs ≤ c) → slice_set xs c y ≡ xs
@@ -129,7 +129,7 @@ fill_item_contexts p slot reply.Left = (refl, refl)
 fill_item_contexts p slot reply.Crashed = (refl, refl)
 fill_item_contexts p slot (reply.Error e) = (refl, refl)
 
-filled_contexts : (p : ProgramState) (asked : MetaCall) (r : Reply) → ((filled p asked r).contexts ≡ p.contexts) × ((filled p asked r).next_call ≡ p.next_call)
+pub filled_contexts : (p : ProgramState) (asked : MetaCall) (r : Reply) → ((filled p asked r).contexts ≡ p.contexts) × ((filled p asked r).next_call ≡ p.next_call)
 filled_contexts p (meta.CreateRegion slot name size mode) r = fill_region_contexts p slot r
 filled_contexts p (meta.DestroyRegion slot) r = (refl, refl)
 filled_contexts p (meta.ResizeRegion slot size) r = (refl, refl)
@@ -336,7 +336,7 @@ grows_at stripes state base next pe p q same e g =
 grows_member : (stripes : ℕ) (state next : State) (pe : ℕ) (p q : ProgramState) → with_member state pe q ≡ next → Grows stripes p q → GrowsAt stripes state pe p next
 grows_member stripes state next pe p q e g = record { is = q; programs = ap (λ s. s.programs) (sym e); service = ap (λ s. s.service) (sym e); grows = g }
 
-changed_programs : (state : State) (c : Option Change) → ((changed state c).programs ≡ state.programs) × ((changed state c).service ≡ state.service)
+pub changed_programs : (state : State) (c : Option Change) → ((changed state c).programs ≡ state.programs) × ((changed state c).service ≡ state.service)
 changed_programs state None = (refl, refl)
 changed_programs state (Some c) = (refl, refl)
 

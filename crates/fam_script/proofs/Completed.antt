@@ -14,12 +14,8 @@ use Rattle.fam_model.specs.declared.script.Script.{Script}
 use Rattle.fam_model.specs.declared.line.Line.{Line}
 use Rattle.fam_model.specs.declared.line.Line.TheVariants as line
 use Rattle.fam_model.specs.ScriptText.{statement_lines, block_lines, program_lines, script_lines, nesting}
-use Rattle.fam_model.specs.Grammar.{is_shallow, is_within, max_nesting}
-use Rattle.fam_script.specs.BadLine.{is_end}
-use Rattle.fam_script.specs.declared.script.form.Form.{Form}
-use Rattle.fam_script.specs.Form.{most_programs, most_statements}
-use Rattle.fam_script.specs.Machine.{has_line}
-use Rattle.fam_script.proofs.Formed.{Begins, IsBeginning, first_service, has_service, has_done, has_end, has_stop}
+use Rattle.fam_model.specs.Grammar.{is_line, is_shallow, is_within, max_count, max_nesting, max_programs}
+use Rattle.fam_script.specs.BadLine.{is_end, BeginsWith}
 use Rattle.fam_script.specs.Machine.{Open, Unfinished, Reading, Nothing, Between, Inside, Whole, step, run}
 use Rattle.fam_script.proofs.Blocks.{statement_lines-Repeat}
 use Rattle.fam_script.proofs.Tests.{and_both, all_both, all_one, all_same, bind_some, some_is}
@@ -50,9 +46,9 @@ all_closed_fits [] block fits = fits.inner
 all_closed_fits (o ∷ outer) block fits =
     all_closed_fits outer (o.before ++ statement.Repeat o.times block ∷ []) (close_fits o.before o.times outer block fits)
 
-all_dones : (form : Form) (opens : List Open) → list_all (has_line form) (dones opens) ≡ true
-all_dones form [] = refl
-all_dones form (o ∷ outer) = and_both (has_line form line.Done) (list_all (has_line form) (dones outer)) (has_done form) (all_dones form outer)
+all_dones : (opens : List Open) → list_all is_line (dones opens) ≡ true
+all_dones [] = refl
+all_dones (o ∷ outer) = and_both (is_line line.Done) (list_all is_line (dones outer)) refl (all_dones outer)
 
 -- the `end` lines
 
@@ -118,6 +114,9 @@ ends_of_reading (Whole s ps) = ends_then ps (line.Stop ∷ []) refl
 
 -- the script that completes what was read
 
+abbrev pub first_service : Service
+first_service = record { servers = 1; stripes = 1; unit = 64 }
+
 abbrev pub script_with : Service → List Program → Script
 script_with s ps = record { service = s; programs = ps; lines = length (line.Service s ∷ (flat_map program_lines ps ++ line.Stop ∷ [])) }
 
@@ -150,33 +149,33 @@ completed_lines (Inside s ps u) =
     ∙ ap (λ (l : List Line). line.Service s ∷ l) (simp append_assoc)
 completed_lines (Whole s ps) = sym (append-nil (lines_of (Whole s ps)))
 
-rest_is_lawful : (form : Form) (r : Reading) → list_all (has_line form) (rest_of r) ≡ true
-rest_is_lawful form Nothing = and_both (has_line form (line.Service first_service)) (list_all (has_line form) (line.Stop ∷ [])) (has_service form) (all_one (has_line form) line.Stop (has_stop form))
-rest_is_lawful form (Between s ps) = all_one (has_line form) line.Stop (has_stop form)
-rest_is_lawful form (Inside s ps u) = all_both (has_line form) (dones u.open_repeats) (line.End ∷ line.Stop ∷ []) (all_dones form u.open_repeats)
-    (and_both (has_line form line.End) (list_all (has_line form) (line.Stop ∷ [])) (has_end form) (all_one (has_line form) line.Stop (has_stop form)))
-rest_is_lawful form (Whole s ps) = refl
+rest_is_lawful : (r : Reading) → list_all is_line (rest_of r) ≡ true
+rest_is_lawful Nothing = and_both (is_line (line.Service first_service)) (list_all is_line (line.Stop ∷ [])) refl (all_one is_line line.Stop refl)
+rest_is_lawful (Between s ps) = all_one is_line line.Stop refl
+rest_is_lawful (Inside s ps u) = all_both is_line (dones u.open_repeats) (line.End ∷ line.Stop ∷ []) (all_dones u.open_repeats)
+    (and_both (is_line line.End) (list_all is_line (line.Stop ∷ [])) refl (all_one is_line line.Stop refl))
+rest_is_lawful (Whole s ps) = refl
 
-few_programs : (form : Form) (r : Reading) → Fits form (most_statements form) r → length (completed r).programs ≤ most_programs form
-few_programs form Nothing fits = omega arith
-few_programs form (Between s ps) fits = fits.0
-few_programs form (Inside s ps u) fits = omega (arith, fits.0, length-append ps (closed_program u ∷ []))
-few_programs form (Whole s ps) fits = fits.0
+few_programs : (r : Reading) → Fits max_count r → length (completed r).programs ≤ max_programs
+few_programs Nothing fits = omega arith
+few_programs (Between s ps) fits = fits.0
+few_programs (Inside s ps u) fits = omega (arith, fits.0, length-append ps (closed_program u ∷ []))
+few_programs (Whole s ps) fits = fits.0
 
-shallow_programs : (form : Form) (r : Reading) → Fits form (most_statements form) r → list_all is_shallow (completed r).programs ≡ true
-shallow_programs form Nothing fits = refl
-shallow_programs form (Between s ps) fits = fits.1.shallow
-shallow_programs form (Inside s ps u) fits =
+shallow_programs : (r : Reading) → Fits max_count r → list_all is_shallow (completed r).programs ≡ true
+shallow_programs Nothing fits = refl
+shallow_programs (Between s ps) fits = fits.1.shallow
+shallow_programs (Inside s ps u) fits =
     all_both is_shallow ps (closed_program u ∷ []) fits.1.shallow (all_one is_shallow (closed_program u)
     (all_same (fits_under 0) (λ s'. nat_le (nesting s') max_nesting) (λ s' h. le-leb _ _ (omega (arith, leb-true _ _ h)))
     (all_closed u.open_repeats u.block) (all_closed_fits u.open_repeats u.block fits.2)))
-shallow_programs form (Whole s ps) fits = fits.1.shallow
+shallow_programs (Whole s ps) fits = fits.1.shallow
 
-pub programs_within : (form : Form) (r : Reading) → Fits form (most_statements form) r → list_all (is_within (most_statements form)) (programs_of r) ≡ true
-programs_within form Nothing fits = refl
-programs_within form (Between s ps) fits = fits.1.within
-programs_within form (Inside s ps u) fits = fits.1.within
-programs_within form (Whole s ps) fits = fits.1.within
+pub programs_within : (r : Reading) → Fits max_count r → list_all (is_within max_count) (programs_of r) ≡ true
+programs_within Nothing fits = refl
+programs_within (Between s ps) fits = fits.1.within
+programs_within (Inside s ps u) fits = fits.1.within
+programs_within (Whole s ps) fits = fits.1.within
 
 ended_is : (r : Reading) → take (length (programs_of r)) (completed r).programs ≡ programs_of r
 ended_is Nothing = refl
@@ -191,47 +190,51 @@ line_count_is (Inside s ps u) = refl
 line_count_is (Whole s ps) = refl
 
 -- a script begins with what was read
-pub begins : (form : Form) (r : Reading) → Fits form (most_statements form) r → list_all (has_line form) (lines_of r) ≡ true → Begins form (completed r) (lines_of r)
-begins form r fits lawful = record {
+pub begins : (r : Reading) → Fits max_count r → list_all is_line (lines_of r) ≡ true → BeginsWith (completed r) (lines_of r)
+begins r fits lawful = record {
   lawful = record {
-    lines = subst (λ (l : List Line). list_all (has_line form) l ≡ true) (sym (completed_lines r))
-        (all_both (has_line form) (lines_of r) (rest_of r) lawful (rest_is_lawful form r));
-    programs = few_programs form r fits;
-    nesting = shallow_programs form r fits;
+    lines = subst (λ (l : List Line). list_all is_line l ≡ true) (sym (completed_lines r))
+        (all_both is_line (lines_of r) (rest_of r) lawful (rest_is_lawful r));
+    programs = few_programs r fits;
+    nesting = shallow_programs r fits;
     line_count = line_count_is r;
   };
   rest = rest_of r;
   begins = completed_lines r;
-  count = subst (λ (l : List Program). list_all (is_within (most_statements form)) l ≡ true)
-      (sym (ap (λ (n : ℕ). take n (completed r).programs) (ends_of_reading r) ∙ ended_is r)) (programs_within form r fits);
+  count = subst (λ (l : List Program). list_all (is_within max_count) l ≡ true)
+      (sym (ap (λ (n : ℕ). take n (completed r).programs) (ends_of_reading r) ∙ ended_is r)) (programs_within r fits);
 }
 
 -- a run adds its lines
 
-pub record Reads (form : Form) (limit : ℕ) (before : Reading) (lines : List Line) (now : Reading) : Type 0 where
+pub record Reads (limit : ℕ) (before : Reading) (lines : List Line) (now : Reading) : Type 0 where
   pub spelled : lines_of now ≡ lines_of before ++ lines
-  pub lawful : list_all (has_line form) lines ≡ true
-  pub fits : Fits form limit now
+  pub lawful : list_all is_line lines ≡ true
+  pub fits : Fits limit now
 
-pub run_reads : (form : Form) (limit : ℕ) (before now : Reading) (lines : List Line) → run form limit before lines ≡ Some now → Fits form limit before → Reads form limit before lines now
-run_reads form limit before now [] e fits =
+pub run_reads : (limit : ℕ) (before now : Reading) (lines : List Line) → run limit before lines ≡ Some now → Fits limit before → Reads limit before lines now
+run_reads limit before now [] e fits =
     let same : before ≡ now = some_is before now e in
-    record { spelled = ap lines_of (sym same) ∙ sym (append-nil (lines_of before)); lawful = refl; fits = subst (Fits form limit) same fits }
-run_reads form limit before now (l ∷ lines) e fits =
-    let b = bind_some (step form limit before l) (λ next. run form limit next lines) now e in
-    let one = step_spelled form limit before b.0 l b.1 in
-    let more = run_reads form limit b.0 now lines b.2 (step_fits form limit before b.0 l b.1 fits) in
+    record { spelled = ap lines_of (sym same) ∙ sym (append-nil (lines_of before)); lawful = refl; fits = subst (Fits limit) same fits }
+run_reads limit before now (l ∷ lines) e fits =
+    let b = bind_some (step limit before l) (λ next. run limit next lines) now e in
+    let one = step_spelled limit before b.0 l b.1 in
+    let more = run_reads limit b.0 now lines b.2 (step_fits limit before b.0 l b.1 fits) in
     record {
       spelled = more.spelled ∙ ap (λ (ls : List Line). ls ++ lines) one.1 ∙ append_assoc (lines_of before) (l ∷ []) lines;
-      lawful = and_both (has_line form l) (list_all (has_line form) lines) one.0 more.lawful;
+      lawful = and_both (is_line l) (list_all is_line lines) one.0 more.lawful;
       fits = more.fits;
     }
 
 -- what is read from the beginning is the beginning of a script
-pub read_begins : (form : Form) (r : Reading) (lines : List Line) → run form (most_statements form) Nothing lines ≡ Some r → IsBeginning form lines
-read_begins form r lines e =
-    let all = run_reads form (most_statements form) Nothing r lines e tt in (
+
+abbrev pub IsBeginning : List Line → Type 0
+IsBeginning lines = (script : Script) × BeginsWith script lines
+
+pub read_begins : (r : Reading) (lines : List Line) → run max_count Nothing lines ≡ Some r → IsBeginning lines
+read_begins r lines e =
+    let all = run_reads max_count Nothing r lines e tt in (
       completed r,
-      subst (λ (ls : List Line). Begins form (completed r) ls) all.spelled
-          (begins form r all.fits (subst (λ (ls : List Line). list_all (has_line form) ls ≡ true) (sym all.spelled) all.lawful)),
+      subst (λ (ls : List Line). BeginsWith (completed r) ls) all.spelled
+          (begins r all.fits (subst (λ (ls : List Line). list_all is_line ls ≡ true) (sym all.spelled) all.lawful)),
     )

@@ -12,10 +12,7 @@ use Rattle.fam_model.specs.Lists.{◌>>=◌, when}
 use Rattle.fam_model.specs.declared.line.Line.{Line}
 use Rattle.fam_model.specs.declared.line.Line.TheVariants as line
 use Rattle.fam_model.specs.ScriptText.{nesting, block_nesting}
-use Rattle.fam_model.specs.Grammar.{is_within, is_shallow, max_nesting}
-use Rattle.fam_script.specs.declared.script.form.Form.{Form}
-use Rattle.fam_script.specs.Form.{most_programs}
-use Rattle.fam_script.specs.Machine.{has_line}
+use Rattle.fam_model.specs.Grammar.{is_line, is_within, is_shallow, max_nesting, max_programs}
 use Rattle.fam_script.specs.Machine.{Open, Unfinished, Reading, Nothing, Between, Inside, Whole, closed, inside_step, finished, grammar_step, step}
 use Rattle.fam_script.proofs.Blocks.{items, row_of}
 use Rattle.fam_script.proofs.Tests.{and_left, and_right, all_both, all_one, all_same, some_is, bind_some, when_some}
@@ -55,11 +52,11 @@ pub record FitsPrograms (limit : ℕ) (ps : List Program) : Type 0 where
   pub shallow : list_all is_shallow ps ≡ true
   pub within : list_all (is_within limit) ps ≡ true
 
-abbrev pub Fits : (form : Form) → ℕ → Reading → Type 0
-Fits form limit Nothing = Unit {0}
-Fits form limit (Between s ps) = (length ps ≤ most_programs form) × FitsPrograms limit ps
-Fits form limit (Inside s ps u) = (length ps < most_programs form) × FitsPrograms limit ps × FitsInside u.open_repeats u.block
-Fits form limit (Whole s ps) = (length ps ≤ most_programs form) × FitsPrograms limit ps
+abbrev pub Fits : ℕ → Reading → Type 0
+Fits limit Nothing = Unit {0}
+Fits limit (Between s ps) = (length ps ≤ max_programs) × FitsPrograms limit ps
+Fits limit (Inside s ps u) = (length ps < max_programs) × FitsPrograms limit ps × FitsInside u.open_repeats u.block
+Fits limit (Whole s ps) = (length ps ≤ max_programs) × FitsPrograms limit ps
 
 outer_length : (opens : List Open) → FitsOuter opens → length opens ≤ max_nesting
 outer_length [] fits = omega arith
@@ -119,52 +116,52 @@ FitsPrograms-push limit ps p fits shallow within = record {
   within = all_both (is_within limit) ps (p ∷ []) fits.within (all_one (is_within limit) p within);
 }
 
-after_inside : (form : Form) (limit : ℕ) (s : Service) (ps : List Program) (u : Unfinished) (l : Line) (r : Reading) → (inside_step u l >>= λ next. Some (Inside s ps next)) ≡ Some r →
-    Fits form limit (Inside s ps u) → Fits form limit r
-after_inside form limit s ps u l r e fits =
+after_inside : (limit : ℕ) (s : Service) (ps : List Program) (u : Unfinished) (l : Line) (r : Reading) → (inside_step u l >>= λ next. Some (Inside s ps next)) ≡ Some r →
+    Fits limit (Inside s ps u) → Fits limit r
+after_inside limit s ps u l r e fits =
     let b = bind_some (inside_step u l) (λ next. Some (Inside s ps next)) r e in
-    subst (Fits form limit) (some_is (Inside s ps b.0) r b.2) (fits.0, fits.1, inside_fits u b.0 l b.1 fits.2)
+    subst (Fits limit) (some_is (Inside s ps b.0) r b.2) (fits.0, fits.1, inside_fits u b.0 l b.1 fits.2)
 
-after_end : (form : Form) (limit : ℕ) (s : Service) (ps : List Program) (u : Unfinished) (r : Reading) →
-    (finished limit u.who u.open_repeats u.block >>= λ program. Some (Between s (ps ++ program ∷ []))) ≡ Some r → Fits form limit (Inside s ps u) → Fits form limit r
-after_end form limit s ps u r e fits =
+after_end : (limit : ℕ) (s : Service) (ps : List Program) (u : Unfinished) (r : Reading) →
+    (finished limit u.who u.open_repeats u.block >>= λ program. Some (Between s (ps ++ program ∷ []))) ≡ Some r → Fits limit (Inside s ps u) → Fits limit r
+after_end limit s ps u r e fits =
     let b = bind_some (finished limit u.who u.open_repeats u.block) (λ program. Some (Between s (ps ++ program ∷ []))) r e in
     let p = finished_fits limit u.who u.open_repeats u.block b.0 b.1 fits.2 in
-    subst (Fits form limit) (some_is (Between s (ps ++ b.0 ∷ [])) r b.2)
+    subst (Fits limit) (some_is (Between s (ps ++ b.0 ∷ [])) r b.2)
     (omega (arith, fits.0, length-append ps (b.0 ∷ [])), FitsPrograms-push limit ps b.0 fits.1 p.0 p.1)
 
-pub grammar_fits : (form : Form) (limit : ℕ) (before now : Reading) (l : Line) → grammar_step form limit before l ≡ Some now → Fits form limit before → Fits form limit now
-grammar_fits form limit Nothing now (line.Service s) e fits =
-    subst (Fits form limit) (some_is _ now e) (omega arith, record { shallow = refl; within = refl })
-grammar_fits form limit Nothing now (line.Pe who) e fits = absurd cc
-grammar_fits form limit Nothing now (line.One asked) e fits = absurd cc
-grammar_fits form limit Nothing now (line.Spin context item offset width value tries) e fits = absurd cc
-grammar_fits form limit Nothing now (line.Repeat times) e fits = absurd cc
-grammar_fits form limit Nothing now line.Done e fits = absurd cc
-grammar_fits form limit Nothing now line.End e fits = absurd cc
-grammar_fits form limit Nothing now line.Stop e fits = absurd cc
-grammar_fits form limit (Between s ps) now (line.Service s') e fits = absurd cc
-grammar_fits form limit (Between s ps) now (line.Pe who) e fits =
+pub grammar_fits : (limit : ℕ) (before now : Reading) (l : Line) → grammar_step limit before l ≡ Some now → Fits limit before → Fits limit now
+grammar_fits limit Nothing now (line.Service s) e fits =
+    subst (Fits limit) (some_is _ now e) (omega arith, record { shallow = refl; within = refl })
+grammar_fits limit Nothing now (line.Pe who) e fits = absurd cc
+grammar_fits limit Nothing now (line.One asked) e fits = absurd cc
+grammar_fits limit Nothing now (line.Spin context item offset width value tries) e fits = absurd cc
+grammar_fits limit Nothing now (line.Repeat times) e fits = absurd cc
+grammar_fits limit Nothing now line.Done e fits = absurd cc
+grammar_fits limit Nothing now line.End e fits = absurd cc
+grammar_fits limit Nothing now line.Stop e fits = absurd cc
+grammar_fits limit (Between s ps) now (line.Service s') e fits = absurd cc
+grammar_fits limit (Between s ps) now (line.Pe who) e fits =
     let w = when_some _ _ now e in
-    subst (Fits form limit) w.1 (ltb-true _ _ w.0, fits.1, record { outer = tt; inner = refl })
-grammar_fits form limit (Between s ps) now (line.One asked) e fits = absurd cc
-grammar_fits form limit (Between s ps) now (line.Spin context item offset width value tries) e fits = absurd cc
-grammar_fits form limit (Between s ps) now (line.Repeat times) e fits = absurd cc
-grammar_fits form limit (Between s ps) now line.Done e fits = absurd cc
-grammar_fits form limit (Between s ps) now line.End e fits = absurd cc
-grammar_fits form limit (Between s ps) now line.Stop e fits = subst (Fits form limit) (some_is _ now e) fits
-grammar_fits form limit (Inside s ps u) now (line.Service s') e fits = after_inside form limit s ps u (line.Service s') now e fits
-grammar_fits form limit (Inside s ps u) now (line.Pe who) e fits = after_inside form limit s ps u (line.Pe who) now e fits
-grammar_fits form limit (Inside s ps u) now (line.One asked) e fits = after_inside form limit s ps u (line.One asked) now e fits
-grammar_fits form limit (Inside s ps u) now (line.Spin context item offset width value tries) e fits =
-    after_inside form limit s ps u (line.Spin context item offset width value tries) now e fits
-grammar_fits form limit (Inside s ps u) now (line.Repeat times) e fits = after_inside form limit s ps u (line.Repeat times) now e fits
-grammar_fits form limit (Inside s ps u) now line.Done e fits = after_inside form limit s ps u line.Done now e fits
-grammar_fits form limit (Inside s ps u) now line.End e fits = after_end form limit s ps u now e fits
-grammar_fits form limit (Inside s ps u) now line.Stop e fits = after_inside form limit s ps u line.Stop now e fits
-grammar_fits form limit (Whole s ps) now l e fits = absurd cc
+    subst (Fits limit) w.1 (ltb-true _ _ w.0, fits.1, record { outer = tt; inner = refl })
+grammar_fits limit (Between s ps) now (line.One asked) e fits = absurd cc
+grammar_fits limit (Between s ps) now (line.Spin context item offset width value tries) e fits = absurd cc
+grammar_fits limit (Between s ps) now (line.Repeat times) e fits = absurd cc
+grammar_fits limit (Between s ps) now line.Done e fits = absurd cc
+grammar_fits limit (Between s ps) now line.End e fits = absurd cc
+grammar_fits limit (Between s ps) now line.Stop e fits = subst (Fits limit) (some_is _ now e) fits
+grammar_fits limit (Inside s ps u) now (line.Service s') e fits = after_inside limit s ps u (line.Service s') now e fits
+grammar_fits limit (Inside s ps u) now (line.Pe who) e fits = after_inside limit s ps u (line.Pe who) now e fits
+grammar_fits limit (Inside s ps u) now (line.One asked) e fits = after_inside limit s ps u (line.One asked) now e fits
+grammar_fits limit (Inside s ps u) now (line.Spin context item offset width value tries) e fits =
+    after_inside limit s ps u (line.Spin context item offset width value tries) now e fits
+grammar_fits limit (Inside s ps u) now (line.Repeat times) e fits = after_inside limit s ps u (line.Repeat times) now e fits
+grammar_fits limit (Inside s ps u) now line.Done e fits = after_inside limit s ps u line.Done now e fits
+grammar_fits limit (Inside s ps u) now line.End e fits = after_end limit s ps u now e fits
+grammar_fits limit (Inside s ps u) now line.Stop e fits = after_inside limit s ps u line.Stop now e fits
+grammar_fits limit (Whole s ps) now l e fits = absurd cc
 
-pub step_fits : (form : Form) (limit : ℕ) (before now : Reading) (l : Line) → step form limit before l ≡ Some now → Fits form limit before → Fits form limit now
-step_fits form limit before now l e fits =
-    let b = bind_some (when (has_line form l) l) (grammar_step form limit before) now e in
-    grammar_fits form limit before now b.0 b.2 fits
+pub step_fits : (limit : ℕ) (before now : Reading) (l : Line) → step limit before l ≡ Some now → Fits limit before → Fits limit now
+step_fits limit before now l e fits =
+    let b = bind_some (when (is_line l) l) (grammar_step limit before) now e in
+    grammar_fits limit before now b.0 b.2 fits

@@ -4,7 +4,6 @@ pub mod Completed
 pub mod Counts
 pub mod Cuts
 pub mod Fits
-pub mod Formed
 pub mod Joined
 pub mod LinesBack
 pub mod Lists

@@ -3,7 +3,6 @@ use Rattle.std.proofs.Common.{◌≡◌, ℕ, suc, ◌+◌, ◌-◌, List, [], �
 use Rattle.std.specs.Prelude.{MatchOption}
 use Rattle.std.specs.List.{flat_map}
 use Rattle.std.proofs.lemmas.List.{append-nil}
-use Rattle.fam_script.specs.declared.script.form.Form.{Form}
 use Rattle.fam_script.specs.BadLine.{whole_lines}
 use Rattle.fam_script.specs.Machine.{Reading}
 use Rattle.fam_script.specs.Parsing.{rest_of, ended_with, and_then, step_text, scan}
@@ -44,36 +43,36 @@ module _ (bytes text rest : List ℕ) (cut : parts 10 bytes ≡ text ∷ parts 1
       ∙ ap (λ (n : ℕ). flat_map (λ part. part) (drop n (text ∷ w ∷ ws))) (one_more text w ws)
       ∙ ap lasts (sym more.2)
 
-  module _ (form : Form) (n : ℕ) (reading : Reading) where
-    cut_scan : (o : Option Reading) → step_text form reading text ≡ o →
-        scan form n reading (whole_lines bytes) (rest_of bytes) ≡ and_then n o (λ next. scan form (n + 1) next (whole_lines rest) (rest_of rest))
+  module _ (n : ℕ) (reading : Reading) where
+    cut_scan : (o : Option Reading) → step_text reading text ≡ o →
+        scan n reading (whole_lines bytes) (rest_of bytes) ≡ and_then n o (λ next. scan (n + 1) next (whole_lines rest) (rest_of rest))
     cut_scan o e =
-        (λ i. scan form n reading (cut_whole i) (cut_rest i))
-        ∙ ap (λ (o : Option Reading). and_then n o (λ next. scan form (n + 1) next (whole_lines rest) (rest_of rest))) e
+        (λ i. scan n reading (cut_whole i) (cut_rest i))
+        ∙ ap (λ (o : Option Reading). and_then n o (λ next. scan (n + 1) next (whole_lines rest) (rest_of rest))) e
 
-    pub scan_step : (next : Reading) → step_text form reading text ≡ Some next → scan form n reading (whole_lines bytes) (rest_of bytes) ≡ scan form (n + 1) next (whole_lines rest) (rest_of rest)
+    pub scan_step : (next : Reading) → step_text reading text ≡ Some next → scan n reading (whole_lines bytes) (rest_of bytes) ≡ scan (n + 1) next (whole_lines rest) (rest_of rest)
     scan_step next e = cut_scan (Some next) e
 
-    pub scan_bad : step_text form reading text ≡ None → scan form n reading (whole_lines bytes) (rest_of bytes) ≡ Err (n + 1)
+    pub scan_bad : step_text reading text ≡ None → scan n reading (whole_lines bytes) (rest_of bytes) ≡ Err (n + 1)
     scan_bad e = cut_scan None e
 
 -- no line feed any more
-pub scan_end : (form : Form) (n : ℕ) (reading : Reading) (bytes : List ℕ) → parts 10 bytes ≡ bytes ∷ [] → scan form n reading (whole_lines bytes) (rest_of bytes) ≡ ended_with n reading bytes
-scan_end form n reading bytes last =
+pub scan_end : (n : ℕ) (reading : Reading) (bytes : List ℕ) → parts 10 bytes ≡ bytes ∷ [] → scan n reading (whole_lines bytes) (rest_of bytes) ≡ ended_with n reading bytes
+scan_end n reading bytes last =
     let whole : whole_lines bytes ≡ [] = ap fronts last in
     let rest : rest_of bytes ≡ bytes = ap lasts last ∙ append-nil bytes in
-    λ i. scan form n reading (whole i) (rest i)
+    λ i. scan n reading (whole i) (rest i)
 
 -- the step of a line, from what the code made of it
 
-module _ (form : Form) (before : Reading) (text : List ℕ) where
+module _ (before : Reading) (text : List ℕ) where
   abbrev pub Made : Option LinesSoFar → Type 0
-  Made o = MatchOption o (step_text form before text ≡ None) (λ now. step_text form before text ≡ Some (view_reading now))
+  Made o = MatchOption o (step_text before text ≡ None) (λ now. step_text before text ≡ Some (view_reading now))
 
-  pub none_made : (o : Option LinesSoFar) → Made o → o ≡ None → step_text form before text ≡ None
+  pub none_made : (o : Option LinesSoFar) → Made o → o ≡ None → step_text before text ≡ None
   none_made None made e = made
   none_made (Some now) made e = absurd cc
 
-  pub some_made : (o : Option LinesSoFar) (next : LinesSoFar) → Made o → o ≡ Some next → step_text form before text ≡ Some (view_reading next)
+  pub some_made : (o : Option LinesSoFar) (next : LinesSoFar) → Made o → o ≡ Some next → step_text before text ≡ Some (view_reading next)
   some_made None next made e = absurd cc
   some_made (Some now) next made e = made ∙ ap (λ (r : LinesSoFar). Some (view_reading r)) (some_is now next e)

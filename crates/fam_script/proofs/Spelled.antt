@@ -11,9 +11,8 @@ use Rattle.fam_model.specs.declared.script.Program.{Program}
 use Rattle.fam_model.specs.Lists.{◌>>=◌, when}
 use Rattle.fam_model.specs.declared.line.Line.{Line}
 use Rattle.fam_model.specs.declared.line.Line.TheVariants as line
+use Rattle.fam_model.specs.Grammar.{is_line}
 use Rattle.fam_model.specs.ScriptText.{statement_lines, program_lines}
-use Rattle.fam_script.specs.declared.script.form.Form.{Form}
-use Rattle.fam_script.specs.Machine.{has_line}
 use Rattle.fam_script.specs.Machine.{Open, Unfinished, Reading, Nothing, Between, Inside, Whole, closed, inside_step, finished, grammar_step, step}
 use Rattle.fam_script.proofs.Blocks.{statement_lines-Repeat}
 use Rattle.fam_script.proofs.Tests.{some_is, bind_some, when_some}
@@ -90,16 +89,16 @@ finished_spelled limit who (o ∷ outer) block program e = absurd cc
 abbrev Spells : Reading → Reading → Line → Type 0
 Spells before now l = lines_of now ≡ lines_of before ++ l ∷ []
 
-after_inside : (form : Form) (s : Service) (ps : List Program) (u : Unfinished) (l : Line) (r : Reading) → (inside_step u l >>= λ next. Some (Inside s ps next)) ≡ Some r → Spells (Inside s ps u) r l
-after_inside form s ps u l r e =
+after_inside : (s : Service) (ps : List Program) (u : Unfinished) (l : Line) (r : Reading) → (inside_step u l >>= λ next. Some (Inside s ps next)) ≡ Some r → Spells (Inside s ps u) r l
+after_inside s ps u l r e =
     let b = bind_some (inside_step u l) (λ next. Some (Inside s ps next)) r e in
     subst (λ (now : Reading). Spells (Inside s ps u) now l) (some_is (Inside s ps b.0) r b.2)
     (ap (λ (ls : List Line). line.Service s ∷ (flat_map program_lines ps ++ ls)) (inside_spelled u b.0 l b.1)
     ∙ ap (λ (ls : List Line). line.Service s ∷ ls) (sym (append_assoc (flat_map program_lines ps) (unfinished_lines u) (l ∷ []))))
 
-after_end : (form : Form) (limit : ℕ) (s : Service) (ps : List Program) (u : Unfinished) (r : Reading) →
+after_end : (limit : ℕ) (s : Service) (ps : List Program) (u : Unfinished) (r : Reading) →
     (finished limit u.who u.open_repeats u.block >>= λ program. Some (Between s (ps ++ program ∷ []))) ≡ Some r → Spells (Inside s ps u) r line.End
-after_end form limit s ps u r e =
+after_end limit s ps u r e =
     let b = bind_some (finished limit u.who u.open_repeats u.block) (λ program. Some (Between s (ps ++ program ∷ []))) r e in
     subst (λ (now : Reading). Spells (Inside s ps u) now line.End) (some_is (Between s (ps ++ b.0 ∷ [])) r b.2)
     (ap (λ (ls : List Line). line.Service s ∷ ls)
@@ -107,38 +106,38 @@ after_end form limit s ps u r e =
     ∙ ap (λ (ls : List Line). flat_map program_lines ps ++ ls) (finished_spelled limit u.who u.open_repeats u.block b.0 b.1)
     ∙ sym (append_assoc (flat_map program_lines ps) (unfinished_lines u) (line.End ∷ []))))
 
-pub grammar_spelled : (form : Form) (limit : ℕ) (before now : Reading) (l : Line) → grammar_step form limit before l ≡ Some now → Spells before now l
-grammar_spelled form limit Nothing now (line.Service s) e = subst (λ (r : Reading). Spells Nothing r (line.Service s)) (some_is _ now e) refl
-grammar_spelled form limit Nothing now (line.Pe who) e = absurd cc
-grammar_spelled form limit Nothing now (line.One asked) e = absurd cc
-grammar_spelled form limit Nothing now (line.Spin context item offset width value tries) e = absurd cc
-grammar_spelled form limit Nothing now (line.Repeat times) e = absurd cc
-grammar_spelled form limit Nothing now line.Done e = absurd cc
-grammar_spelled form limit Nothing now line.End e = absurd cc
-grammar_spelled form limit Nothing now line.Stop e = absurd cc
-grammar_spelled form limit (Between s ps) now (line.Service s') e = absurd cc
-grammar_spelled form limit (Between s ps) now (line.Pe who) e =
+pub grammar_spelled : (limit : ℕ) (before now : Reading) (l : Line) → grammar_step limit before l ≡ Some now → Spells before now l
+grammar_spelled limit Nothing now (line.Service s) e = subst (λ (r : Reading). Spells Nothing r (line.Service s)) (some_is _ now e) refl
+grammar_spelled limit Nothing now (line.Pe who) e = absurd cc
+grammar_spelled limit Nothing now (line.One asked) e = absurd cc
+grammar_spelled limit Nothing now (line.Spin context item offset width value tries) e = absurd cc
+grammar_spelled limit Nothing now (line.Repeat times) e = absurd cc
+grammar_spelled limit Nothing now line.Done e = absurd cc
+grammar_spelled limit Nothing now line.End e = absurd cc
+grammar_spelled limit Nothing now line.Stop e = absurd cc
+grammar_spelled limit (Between s ps) now (line.Service s') e = absurd cc
+grammar_spelled limit (Between s ps) now (line.Pe who) e =
     subst (λ (r : Reading). Spells (Between s ps) r (line.Pe who)) (when_some _ _ now e).1 refl
-grammar_spelled form limit (Between s ps) now (line.One asked) e = absurd cc
-grammar_spelled form limit (Between s ps) now (line.Spin context item offset width value tries) e = absurd cc
-grammar_spelled form limit (Between s ps) now (line.Repeat times) e = absurd cc
-grammar_spelled form limit (Between s ps) now line.Done e = absurd cc
-grammar_spelled form limit (Between s ps) now line.End e = absurd cc
-grammar_spelled form limit (Between s ps) now line.Stop e = subst (λ (r : Reading). Spells (Between s ps) r line.Stop) (some_is _ now e) refl
-grammar_spelled form limit (Inside s ps u) now (line.Service s') e = after_inside form s ps u (line.Service s') now e
-grammar_spelled form limit (Inside s ps u) now (line.Pe who) e = after_inside form s ps u (line.Pe who) now e
-grammar_spelled form limit (Inside s ps u) now (line.One asked) e = after_inside form s ps u (line.One asked) now e
-grammar_spelled form limit (Inside s ps u) now (line.Spin context item offset width value tries) e =
-    after_inside form s ps u (line.Spin context item offset width value tries) now e
-grammar_spelled form limit (Inside s ps u) now (line.Repeat times) e = after_inside form s ps u (line.Repeat times) now e
-grammar_spelled form limit (Inside s ps u) now line.Done e = after_inside form s ps u line.Done now e
-grammar_spelled form limit (Inside s ps u) now line.End e = after_end form limit s ps u now e
-grammar_spelled form limit (Inside s ps u) now line.Stop e = after_inside form s ps u line.Stop now e
-grammar_spelled form limit (Whole s ps) now l e = absurd cc
+grammar_spelled limit (Between s ps) now (line.One asked) e = absurd cc
+grammar_spelled limit (Between s ps) now (line.Spin context item offset width value tries) e = absurd cc
+grammar_spelled limit (Between s ps) now (line.Repeat times) e = absurd cc
+grammar_spelled limit (Between s ps) now line.Done e = absurd cc
+grammar_spelled limit (Between s ps) now line.End e = absurd cc
+grammar_spelled limit (Between s ps) now line.Stop e = subst (λ (r : Reading). Spells (Between s ps) r line.Stop) (some_is _ now e) refl
+grammar_spelled limit (Inside s ps u) now (line.Service s') e = after_inside s ps u (line.Service s') now e
+grammar_spelled limit (Inside s ps u) now (line.Pe who) e = after_inside s ps u (line.Pe who) now e
+grammar_spelled limit (Inside s ps u) now (line.One asked) e = after_inside s ps u (line.One asked) now e
+grammar_spelled limit (Inside s ps u) now (line.Spin context item offset width value tries) e =
+    after_inside s ps u (line.Spin context item offset width value tries) now e
+grammar_spelled limit (Inside s ps u) now (line.Repeat times) e = after_inside s ps u (line.Repeat times) now e
+grammar_spelled limit (Inside s ps u) now line.Done e = after_inside s ps u line.Done now e
+grammar_spelled limit (Inside s ps u) now line.End e = after_end limit s ps u now e
+grammar_spelled limit (Inside s ps u) now line.Stop e = after_inside s ps u line.Stop now e
+grammar_spelled limit (Whole s ps) now l e = absurd cc
 
 -- a step took a lawful line, and its reading stands for one line more
-pub step_spelled : (form : Form) (limit : ℕ) (before now : Reading) (l : Line) → step form limit before l ≡ Some now → (has_line form l ≡ true) × Spells before now l
-step_spelled form limit before now l e =
-    let b = bind_some (when (has_line form l) l) (grammar_step form limit before) now e in
-    let good = when_some (has_line form l) l b.0 b.1 in
-    (good.0, grammar_spelled form limit before now l (subst (λ (x : Line). grammar_step form limit before x ≡ Some now) (sym good.1) b.2))
+pub step_spelled : (limit : ℕ) (before now : Reading) (l : Line) → step limit before l ≡ Some now → (is_line l ≡ true) × Spells before now l
+step_spelled limit before now l e =
+    let b = bind_some (when (is_line l) l) (grammar_step limit before) now e in
+    let good = when_some (is_line l) l b.0 b.1 in
+    (good.0, grammar_spelled limit before now l (subst (λ (x : Line). grammar_step limit before x ≡ Some now) (sym good.1) b.2))

@@ -5,11 +5,8 @@ use Rattle.fam_model.specs.declared.line.Line.{Line}
 use Rattle.fam_model.specs.declared.line.Line.TheVariants as line
 use Rattle.fam_model.specs.declared.script.Program.{Program}
 use Rattle.fam_model.specs.declared.script.Script.{Script}
-use Rattle.fam_model.specs.Grammar.{is_within, IsLawfulButCount}
+use Rattle.fam_model.specs.Grammar.{max_count, is_within, IsLawfulButCount, IsScript}
 use Rattle.fam_model.specs.ScriptText.{line_text, script_lines}
-use Rattle.fam_script.specs.declared.script.form.Form.{Form}
-use Rattle.fam_script.specs.declared.script.form.Form.TheVariants.{Played}
-use Rattle.fam_script.specs.Form.{allows, most_programs, most_statements, IsScriptOf}
 
 -- the lines that have their line feed
 abbrev pub whole_lines : List ℕ → List (List ℕ)
@@ -34,26 +31,20 @@ abbrev pub ended : List Line → Script → List Program
 ended lines script = take (length (filter is_end lines)) script.programs
 
 -- A script begins with these lines. How many statements a program has matters only where its `end` is among them.
-pub record BeginsWith (form : Form) (script : Script) (lines : List Line) : Type 0 where
+pub record BeginsWith (script : Script) (lines : List Line) : Type 0 where
   pub lawful : IsLawfulButCount script
-  pub allowed : IsTrue (list_all (allows form) (script_lines script))
-  pub programs : length script.programs ≤ most_programs form
   pub rest : List Line
   pub begins : script_lines script ≡ lines ++ rest
-  pub count : IsTrue (list_all (is_within (most_statements form)) (ended lines script))
+  pub count : IsTrue (list_all (is_within max_count) (ended lines script))
 
--- these texts are lines with which a script of this form begins
-pub record BeginsScript (form : Form) (texts : List (List ℕ)) : Type 0 where
+-- these texts are lines with which a script begins
+pub record BeginsScript (texts : List (List ℕ)) : Type 0 where
   pub lines : List Line
   pub script : Script
-  pub beginning : BeginsWith form script lines
+  pub beginning : BeginsWith script lines
   pub text : texts ≡ map line_text lines
 
--- the bytes are no script of this form, and this is the least number of lines with which none begins
-pub record IsBadLineOf (form : Form) (bytes : List ℕ) (n : ℕ) : Type 0 where
-  pub no_script : (script : Script) → ¬ IsScriptOf form bytes script
-  pub first : IsFirstBadLine (BeginsScript form) bytes n
-
--- the bad line of what is no script that is played
-abbrev pub IsBadLine : List ℕ → ℕ → Type 0
-IsBadLine bytes n = IsBadLineOf Played bytes n
+-- the bytes are no script, and this is the least number of lines with which none begins
+pub record IsBadLine (bytes : List ℕ) (n : ℕ) : Type 0 where
+  pub no_script : (script : Script) → ¬ IsScript bytes script
+  pub first : IsFirstBadLine BeginsScript bytes n

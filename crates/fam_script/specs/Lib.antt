@@ -1,5 +1,4 @@
 pub mod BadLine
-pub mod Form
 pub mod Machine
 pub mod Parsing
 pub mod Reading

@@ -1,5 +1,5 @@
 -- How lines are read in turn. A reader need not believe any of this: it is proved that scripts, and no other bytes, are read so.
-use Rattle.std.specs.Prelude.{ℕ, Bool, ◌&&◌, nat_le, nat_lt, List, [], ◌∷◌, ◌++◌, length, Option, Some, None}
+use Rattle.std.specs.Prelude.{ℕ, nat_le, nat_lt, List, [], ◌∷◌, ◌++◌, length, Option, Some, None}
 use Rattle.fam_base.specs.declared.naming.Who.{Who}
 use Rattle.fam_model.specs.declared.line.Line.{Line}
 use Rattle.fam_model.specs.declared.line.Line.TheVariants as line
@@ -7,10 +7,8 @@ use Rattle.fam_model.specs.declared.service.Service.{Service}
 use Rattle.fam_model.specs.declared.script.Statement.{Statement}
 use Rattle.fam_model.specs.declared.script.Statement.TheVariants as statement
 use Rattle.fam_model.specs.declared.script.Program.{Program}
-use Rattle.fam_model.specs.Grammar.{is_line, max_nesting, program_count}
+use Rattle.fam_model.specs.Grammar.{is_line, max_count, max_nesting, max_programs, program_count}
 use Rattle.fam_model.specs.Lists.{◌>>=◌, when}
-use Rattle.fam_script.specs.declared.script.form.Form.{Form}
-use Rattle.fam_script.specs.Form.{allows, most_programs, most_statements}
 
 -- an open repeat: the statements before it in its block, and its count
 pub record Open : Type 0 where
@@ -29,10 +27,6 @@ pub data Reading : Type 0 where
   Between : Service → List Program → Reading
   Inside : Service → List Program → Unfinished → Reading
   Whole : Service → List Program → Reading
-
--- a lawful line of a script of this form
-abbrev pub has_line : Form → Line → Bool
-has_line form l = is_line l && allows form l
 
 -- a program that begins
 abbrev pub begun : Who → Unfinished
@@ -69,34 +63,33 @@ finished limit who [] block =
     let program : Program = record { who = who; statements = block } in when (nat_le (program_count program) limit) program
 finished limit who (o ∷ outer) block = None
 
--- what a line of the form makes of a reading, where so many statements are a program's at most
-abbrev pub grammar_step : Form → ℕ → Reading → Line → Option Reading
-grammar_step form limit Nothing (line.Service service) = Some (Between service [])
-grammar_step form limit (Between service programs) (line.Pe who) =
-    when (nat_lt (length programs) (most_programs form))
-    (Inside service programs (begun who))
-grammar_step form limit (Between service programs) line.Stop = Some (Whole service programs)
-grammar_step form limit (Inside service programs u) line.End = do
+-- what a lawful line makes of a reading, where so many statements are a program's at most
+abbrev pub grammar_step : ℕ → Reading → Line → Option Reading
+grammar_step limit Nothing (line.Service service) = Some (Between service [])
+grammar_step limit (Between service programs) (line.Pe who) =
+    when (nat_lt (length programs) max_programs) (Inside service programs (begun who))
+grammar_step limit (Between service programs) line.Stop = Some (Whole service programs)
+grammar_step limit (Inside service programs u) line.End = do
   program ← finished limit u.who u.open_repeats u.block
   Some (Between service (programs ++ program ∷ []))
-grammar_step form limit (Inside service programs u) l = do
+grammar_step limit (Inside service programs u) l = do
   next ← inside_step u l
   Some (Inside service programs next)
-grammar_step form limit _ _ = None
+grammar_step limit _ _ = None
 
--- what the lines are with one more; none where no script of the form goes on so
-abbrev pub step : Form → ℕ → Reading → Line → Option Reading
-step form limit reading l = do
-  good ← when (has_line form l) l
-  grammar_step form limit reading good
+-- what the lines are with one more; none where no script goes on so
+abbrev pub step : ℕ → Reading → Line → Option Reading
+step limit reading l = do
+  good ← when (is_line l) l
+  grammar_step limit reading good
 
 -- lines taken in turn
-abbrev pub run : Form → ℕ → Reading → List Line → Option Reading
-run form limit reading [] = Some reading
-run form limit reading (l ∷ lines) = do
-  next ← step form limit reading l
-  run form limit next lines
+abbrev pub run : ℕ → Reading → List Line → Option Reading
+run limit reading [] = Some reading
+run limit reading (l ∷ lines) = do
+  next ← step limit reading l
+  run limit next lines
 
 -- what these lines are, from the beginning
-abbrev pub read : Form → List Line → Option Reading
-read form lines = run form (most_statements form) Nothing lines
+abbrev pub read : List Line → Option Reading
+read lines = run max_count Nothing lines

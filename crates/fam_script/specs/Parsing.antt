@@ -5,10 +5,9 @@ use Rattle.fam_model.specs.declared.line.Line.{Line}
 use Rattle.fam_model.specs.declared.service.Service.{Service}
 use Rattle.fam_model.specs.declared.script.Program.{Program}
 use Rattle.fam_model.specs.declared.script.Script.{Script}
+use Rattle.fam_model.specs.Grammar.{max_count}
 use Rattle.fam_model.specs.Lists.{◌>>=◌}
-use Rattle.fam_script.specs.declared.script.form.Form.{Form}
 use Rattle.fam_script.specs.BadLine.{whole_lines}
-use Rattle.fam_script.specs.Form.{most_statements}
 use Rattle.fam_script.specs.Machine.{Reading, Nothing, Whole, step}
 use Rattle.fam_script.specs.Reading.{line_of}
 
@@ -31,21 +30,21 @@ and_then n None others = Err (n + 1)
 and_then n (Some next) others = others next
 
 -- what a reading is after one more line
-abbrev pub step_line : Form → Reading → Line → Option Reading
-step_line form reading l = step form (most_statements form) reading l
+abbrev pub step_line : Reading → Line → Option Reading
+step_line reading l = step max_count reading l
 
 -- what a reading is after the text of one more line
-abbrev pub step_text : Form → Reading → List ℕ → Option Reading
-step_text form reading text = do
+abbrev pub step_text : Reading → List ℕ → Option Reading
+step_text reading text = do
   l ← line_of text
-  step_line form reading l
+  step_line reading l
 
 -- the script that the lines from here on complete, where n lines came before, or its bad line
-abbrev pub scan : Form → ℕ → Reading → List (List ℕ) → List ℕ → Result Script ℕ
-scan form n reading [] rest = ended_with n reading rest
-scan form n reading (text ∷ texts) rest =
-    and_then n (step_text form reading text) (λ next. scan form (n + 1) next texts rest)
+abbrev pub scan : ℕ → Reading → List (List ℕ) → List ℕ → Result Script ℕ
+scan n reading [] rest = ended_with n reading rest
+scan n reading (text ∷ texts) rest =
+    and_then n (step_text reading text) (λ next. scan (n + 1) next texts rest)
 
 -- the script that the bytes are, or their bad line
-abbrev pub parse_of : Form → List ℕ → Result Script ℕ
-parse_of form bytes = scan form 0 Nothing (whole_lines bytes) (rest_of bytes)
+abbrev pub parse_of : List ℕ → Result Script ℕ
+parse_of bytes = scan 0 Nothing (whole_lines bytes) (rest_of bytes)

@@ -5,12 +5,11 @@ use Rattle.fam_model.specs.declared.line.Line.TheVariants as line
 use Rattle.fam_model.specs.declared.service.Service.{Service}
 use Rattle.fam_model.specs.declared.script.Program.{Program}
 use Rattle.fam_model.specs.declared.script.Script.{Script}
-use Rattle.fam_script.specs.declared.script.form.Form.{Form}
+use Rattle.fam_model.specs.Grammar.{max_count}
 use Rattle.fam_script.specs.declared.script.unfinished.Open.{Open as OpenRepeat}
 use Rattle.fam_script.specs.declared.script.unfinished.Unfinished.{Unfinished as UnfinishedProgram}
 use Rattle.fam_script.specs.declared.script.reading.Reading.{Reading as LinesSoFar}
 use Rattle.fam_script.specs.declared.script.reading.Reading.TheVariants as so_far
-use Rattle.fam_script.specs.Form.{most_statements}
 use Rattle.fam_script.specs.Machine.{Open, Unfinished, Reading, Nothing, Between, Inside, Whole, grammar_step}
 use Rattle.fam_script.specs.Parsing.{step_line, ended_with}
 
@@ -30,20 +29,20 @@ view_reading (so_far.Inside service programs u) = Inside service programs (view 
 view_reading (so_far.Whole service programs) = Whole service programs
 
 -- one more line makes this of the lines so far
-abbrev pub Steps : Form → LinesSoFar → Line → Option LinesSoFar → Type 0
-Steps form before l next =
-    MatchOption next (step_line form (view_reading before) l ≡ None)
-    (λ now. step_line form (view_reading before) l ≡ Some (view_reading now))
+abbrev pub Steps : LinesSoFar → Line → Option LinesSoFar → Type 0
+Steps before l next =
+    MatchOption next (step_line (view_reading before) l ≡ None)
+    (λ now. step_line (view_reading before) l ≡ Some (view_reading now))
 
--- a line of the form makes this of a reading
-abbrev pub Moves : Form → Reading → Line → Option LinesSoFar → Type 0
-Moves form before l next =
-    MatchOption next (grammar_step form (most_statements form) before l ≡ None)
-    (λ now. grammar_step form (most_statements form) before l ≡ Some (view_reading now))
+-- a lawful line makes this of a reading
+abbrev pub Moves : Reading → Line → Option LinesSoFar → Type 0
+Moves before l next =
+    MatchOption next (grammar_step max_count before l ≡ None)
+    (λ now. grammar_step max_count before l ≡ Some (view_reading now))
 
 -- the end of a program makes this of the lines so far
-abbrev pub Ends : Form → Service → List Program → Unfinished → Option LinesSoFar → Type 0
-Ends form service programs u next = Moves form (Inside service programs u) line.End next
+abbrev pub Ends : Service → List Program → Unfinished → Option LinesSoFar → Type 0
+Ends service programs u next = Moves (Inside service programs u) line.End next
 
 -- the script of so many lines, or none
 abbrev pub GivesScript : ℕ → LinesSoFar → List ℕ → Option Script → Type 0

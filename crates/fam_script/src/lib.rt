@@ -7,4 +7,4 @@ mod script;
 
 pub use number::number_in;
 pub use printing::statement;
-pub use script::{Form, ScriptFault, parse, parse_form};
+pub use script::{ScriptFault, parse};

@@ -1,8 +1,8 @@
 //! Scripts: which bytes are one, and what it asks.
 
 ghost use Rattle.std.specs.Prelude.{◌≡◌, ℕ, IfOk, Err};
-ghost use Rattle.fam_script.specs.BadLine.{IsBadLine, IsBadLineOf};
-ghost use Rattle.fam_script.specs.Form.{IsPlayedScript, IsScriptOf};
+ghost use Rattle.fam_model.specs.Grammar.{IsScript};
+ghost use Rattle.fam_script.specs.BadLine.{IsBadLine};
 
 use fam_base::NoMemory;
 use fam_model::Script;
@@ -12,7 +12,6 @@ use thiserror::Error;
 
 mod contexts;
 mod cut;
-mod form;
 mod frames;
 mod lawful;
 mod line;
@@ -26,7 +25,6 @@ mod table;
 mod unfinished;
 mod word;
 
-pub use form::Form;
 pub use word::number;
 
 /// Why bytes are no script. A bad line is told by its number, the first line having number 1.
@@ -48,22 +46,13 @@ impl From<NoMemory> for ScriptFault {
     }
 }
 
-/// The script that the bytes are, where it is played. The bad line is the first one with which no script
-/// that is played goes on; where lines are missing, it is the line behind the last one.
+/// The script that the bytes are. The bad line is the first one with which no script goes on; where lines
+/// are missing, it is the line behind the last one.
 pub fn parse(alloc: Global, bytes: &[u8]) -> Result<Script, ScriptFault>
-    ensures script { IfOk result (λ s. IsPlayedScript bytes.now s) }
+    ensures script { IfOk result (λ s. IsScript bytes.now s) }
     ensures bad_line { (n : ℕ) → result ≡ Err (ScriptFault.BadLine n) → IsBadLine bytes.now n }
 {
-    parse_form(alloc, Form::Played, bytes)
-}
-
-/// The script of this form that the bytes are. The bad line is the first one with which no such script
-/// goes on; where lines are missing, it is the line behind the last one.
-pub fn parse_form(alloc: Global, form: Form, bytes: &[u8]) -> Result<Script, ScriptFault>
-    ensures script { IfOk result (λ s. IsScriptOf form bytes.now s) }
-    ensures bad_line { (n : ℕ) → result ≡ Err (ScriptFault.BadLine n) → IsBadLineOf form bytes.now n }
-{
-    read(alloc, form, bytes)
+    read(alloc, bytes)
 }
 
 #[cfg(test)]

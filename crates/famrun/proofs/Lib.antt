@@ -1,13 +1,3 @@
-pub mod Calls
-pub mod OnePiece
 pub mod Outcomes
 pub mod Patterns
-pub mod Placing
-pub mod Ends
-pub mod Follows
-pub mod Joined
-pub mod Plays
 pub mod Runs
-pub mod Stepping
-pub mod Turns
-pub mod Whole

@@ -1,15 +1,17 @@
 -- Every ending of a simulation is one that its contract allows.
-use Rattle.std.proofs.Common.{◌≡◌, ℕ, ◌+◌, ◌<◌, ◌≤◌, List, [], ◌++◌, refl, sym, ap, ◌∙◌, arith, inl, inr, ◌⊎◌, length, length-append, append-nil, subst}
+use Rattle.std.proofs.Common.{◌≡◌, ℕ, ◌+◌, ◌<◌, ◌≤◌, List, [], ◌∷◌, ◌++◌, refl, sym, ap, ◌∙◌, arith, inl, inr, ◌⊎◌, length, length-append, append-nil, subst}
 use Rattle.std.specs.Prelude.{Option, Some, None, IfSome, codes, ◌≢◌}
+use Rattle.std.specs.Fmt.{decimal}
+use Rattle.std.proofs.lemmas.Fmt.{decimal_injective}
 use Rattle.std.specs.Io.KnownBytes.{Consumes, IsAtEnd}
 use Rattle.std.proofs.KnownBytes.{Consumes-nil, Appends-nil}
 use Rattle.fam_io.specs.State.{SourceState, SinkState, Moves, MovesUpTo, MovesExactly}
 use Rattle.fam_model.specs.declared.event.Event.{Event}
 use Rattle.fam_model.specs.declared.script.Script.{Script}
-use Rattle.fam_script.specs.Form.{IsPlayedScript}
+use Rattle.fam_model.specs.Grammar.{IsScript}
 use Rattle.famrun.specs.declared.ending.Ending.{Ending}
 use Rattle.famrun.specs.declared.ending.Ending.TheVariants as ending
-use Rattle.famrun.specs.Ending.{IsSim, ReadsScript, ReadsBadLine, SimEnds, SimOutcome, IsCalm, Tells, input_limit, status_of}
+use Rattle.famrun.specs.Ending.{IsSim, HasSeed, ReadsScript, ReadsBadLine, SimEnds, SimOutcome, IsCalm, Tells, input_limit, status_of}
 
 -- the words were refused
 pub refused : (words : List (List ℕ)) (source : SourceState) (before after : SinkState) (status : ℕ) (history : List Event) → ¬ IsSim words → status ≡ 2 → history ≡ [] →
@@ -41,35 +43,35 @@ if_some None P h = tt
 if_some (Some x) P h = h x refl
 
 -- a simulation never says that the words are bad
-not_two : (from to : SourceState) (before after : SinkState) (history : List Event) (e : Ending) → SimEnds from to before after history e → status_of e ≢ 2
-not_two from to before after history ending.Told ends two = let t = two in omega (arith, t)
-not_two from to before after history ending.BadWords ends two = ends
-not_two from to before after history (ending.BadLine n) ends two = let t = two in omega (arith, t)
-not_two from to before after history ending.ReadFault ends two = let t = two in omega (arith, t)
-not_two from to before after history ending.WriteFault ends two = let t = two in omega (arith, t)
-not_two from to before after history ending.NoMemory ends two = let t = two in omega (arith, t)
-not_two from to before after history ending.TooLong ends two = let t = two in omega (arith, t)
+not_two : (seed : ℕ) (from to : SourceState) (before after : SinkState) (history : List Event) (e : Ending) → SimEnds seed from to before after history e → status_of e ≢ 2
+not_two seed from to before after history ending.Told ends two = let t = two in omega (arith, t)
+not_two seed from to before after history ending.BadWords ends two = ends
+not_two seed from to before after history (ending.BadLine n) ends two = let t = two in omega (arith, t)
+not_two seed from to before after history ending.ReadFault ends two = let t = two in omega (arith, t)
+not_two seed from to before after history ending.WriteFault ends two = let t = two in omega (arith, t)
+not_two seed from to before after history ending.NoMemory ends two = let t = two in omega (arith, t)
+not_two seed from to before after history ending.TooLong ends two = let t = two in omega (arith, t)
 
-module _ (from to : SourceState) (before after : SinkState) (history : List Event) (left : List ℕ) (told : from.left ≡ Some left) where
+module _ (seed : ℕ) (from to : SourceState) (before after : SinkState) (history : List Event) (left : List ℕ) (told : from.left ≡ Some left) where
   moved : (bytes : List ℕ) → Moves from to bytes → Consumes (Some left) to.left bytes
   moved bytes moves = subst (λ o. Consumes o to.left bytes) told moves.given
 
   -- a script that was read is all that was left
-  script_is : (script : Script) → ReadsScript from to script → IsPlayedScript left script × (length left ≤ input_limit)
+  script_is : (script : Script) → ReadsScript from to script → IsScript left script × (length left ≤ input_limit)
   script_is script reads =
       let all = all_read left reads.bytes to.left (moved reads.bytes reads.read) reads.end in
       let within = reads.within in
-      (subst (λ bytes. IsPlayedScript bytes script) (sym all) reads.is_script, subst (λ bytes. length bytes ≤ input_limit) (sym all) within)
+      (subst (λ bytes. IsScript bytes script) (sym all) reads.is_script, subst (λ bytes. length bytes ≤ input_limit) (sym all) within)
 
-  bad_line_is : (n : ℕ) → ReadsBadLine from to n → ((script : Script) → ¬ IsPlayedScript left script) × (length left ≤ input_limit)
+  bad_line_is : (n : ℕ) → ReadsBadLine from to n → ((script : Script) → ¬ IsScript left script) × (length left ≤ input_limit)
   bad_line_is n reads =
       let all = all_read left reads.bytes to.left (moved reads.bytes reads.read) reads.end in
-      (subst (λ bytes. (script : Script) → ¬ IsPlayedScript bytes script) (sym all) reads.is_bad.no_script, subst (λ bytes. length bytes ≤ input_limit) (sym all) reads.within)
+      (subst (λ bytes. (script : Script) → ¬ IsScript bytes script) (sym all) reads.is_bad.no_script, subst (λ bytes. length bytes ≤ input_limit) (sym all) reads.within)
 
   too_many : MovesExactly from to (input_limit + 1) → input_limit < length left
   too_many (bytes, long, moves) = let far : length bytes ≤ length left = consumed left bytes to.left (moved bytes moves) in omega (arith, far, long)
 
-  complete : (e : Ending) → SimEnds from to before after history e → IsCalm from to before after → length left ≤ input_limit → (script : Script) → IsPlayedScript left script →
+  complete : (e : Ending) → SimEnds seed from to before after history e → IsCalm from to before after → length left ≤ input_limit → (script : Script) → IsScript left script →
       (status_of e ≡ 0) ⊎ (status_of e ≡ 9)
   complete ending.Told ends calm short script is = inl refl
   complete ending.BadWords ends calm short script is = absurd ends
@@ -79,7 +81,7 @@ module _ (from to : SourceState) (before after : SinkState) (history : List Even
   complete ending.NoMemory ends calm short script is = inr refl
   complete ending.TooLong (moves, rest, line) calm short script is = absurd (omega (arith, too_many moves, short))
 
-  no_script : (e : Ending) → SimEnds from to before after history e → IsCalm from to before after → length left ≤ input_limit → ((script : Script) → ¬ IsPlayedScript left script) →
+  no_script : (e : Ending) → SimEnds seed from to before after history e → IsCalm from to before after → length left ≤ input_limit → ((script : Script) → ¬ IsScript left script) →
       (status_of e ≡ 3) ⊎ (status_of e ≡ 9)
   no_script ending.Told (script, runs, rest) calm short other = absurd (other script (script_is script runs.reads).0)
   no_script ending.BadWords ends calm short other = absurd ends
@@ -89,7 +91,7 @@ module _ (from to : SourceState) (before after : SinkState) (history : List Even
   no_script ending.NoMemory ends calm short other = inr refl
   no_script ending.TooLong (moves, rest, line) calm short other = absurd (omega (arith, too_many moves, short))
 
-  too_long : (e : Ending) → SimEnds from to before after history e → IsCalm from to before after → input_limit < length left →
+  too_long : (e : Ending) → SimEnds seed from to before after history e → IsCalm from to before after → input_limit < length left →
       (status_of e ≡ 10) ⊎ (status_of e ≡ 9)
   too_long ending.Told (script, runs, rest) calm long = let short = (script_is script runs.reads).1 in absurd (omega (arith, short, long))
   too_long ending.BadWords ends calm long = absurd ends
@@ -99,20 +101,27 @@ module _ (from to : SourceState) (before after : SinkState) (history : List Even
   too_long ending.NoMemory ends calm long = inr refl
   too_long ending.TooLong ends calm long = inl refl
 
+-- the words have one seed
+same_words : (a b : List ℕ) → codes "sim" ∷ a ∷ [] ≡ codes "sim" ∷ b ∷ [] → a ≡ b
+same_words a b e = cc
+
+same_seed : (words : List (List ℕ)) (n m : ℕ) → HasSeed words n → HasSeed words m → n ≡ m
+same_seed words n m a b = decimal_injective n m a.low b.low (same_words (decimal n) (decimal m) (sym a.words_are ∙ b.words_are))
+
 -- the words were those of `sim`
-pub played_out : (words : List (List ℕ)) (from to : SourceState) (before after : SinkState) (status : ℕ) (history : List Event) (e : Ending) →
-    IsSim words → status ≡ status_of e → SimEnds from to before after history e → MovesUpTo from to (input_limit + 1) →
+pub played_out : (words : List (List ℕ)) (seed : ℕ) (from to : SourceState) (before after : SinkState) (status : ℕ) (history : List Event) (e : Ending) →
+    HasSeed words seed → status ≡ status_of e → SimEnds seed from to before after history e → MovesUpTo from to (input_limit + 1) →
     SimOutcome words from to before after status history
-played_out words from to before after status history e sim is ends most =
+played_out words seed from to before after status history e sim is ends most =
     record {
-      bad_words = (λ two. absurd (not_two from to before after history e ends (sym is ∙ two)), λ other. absurd (other sim));
-      refused = λ other. absurd (other sim);
-      ends = λ s. (e, is, ends);
+      bad_words = (λ two. absurd (not_two seed from to before after history e ends (sym is ∙ two)), λ other. absurd (other (seed, sim)));
+      refused = λ other. absurd (other (seed, sim));
+      ends = λ s. (e, is, subst (λ n. SimEnds n from to before after history e) (same_seed words seed s.0 sim s.1) ends);
       most = most;
-      complete = λ s calm. if_some from.left (λ bytes. length bytes ≤ input_limit → (script : Script) → IsPlayedScript bytes script → (status ≡ 0) ⊎ (status ≡ 9))
-          (λ left told short script text. subst (λ n. (n ≡ 0) ⊎ (n ≡ 9)) (sym is) (complete from to before after history left told e ends calm short script text));
-      no_script = λ s calm. if_some from.left (λ bytes. length bytes ≤ input_limit → ((script : Script) → ¬ IsPlayedScript bytes script) → (status ≡ 3) ⊎ (status ≡ 9))
-          (λ left told short other. subst (λ n. (n ≡ 3) ⊎ (n ≡ 9)) (sym is) (no_script from to before after history left told e ends calm short other));
+      complete = λ s calm. if_some from.left (λ bytes. length bytes ≤ input_limit → (script : Script) → IsScript bytes script → (status ≡ 0) ⊎ (status ≡ 9))
+          (λ left told short script text. subst (λ n. (n ≡ 0) ⊎ (n ≡ 9)) (sym is) (complete seed from to before after history left told e ends calm short script text));
+      no_script = λ s calm. if_some from.left (λ bytes. length bytes ≤ input_limit → ((script : Script) → ¬ IsScript bytes script) → (status ≡ 3) ⊎ (status ≡ 9))
+          (λ left told short other. subst (λ n. (n ≡ 3) ⊎ (n ≡ 9)) (sym is) (no_script seed from to before after history left told e ends calm short other));
       too_long = λ s calm. if_some from.left (λ bytes. input_limit < length bytes → (status ≡ 10) ⊎ (status ≡ 9))
-          (λ left told long. subst (λ n. (n ≡ 10) ⊎ (n ≡ 9)) (sym is) (too_long from to before after history left told e ends calm long));
+          (λ left told long. subst (λ n. (n ≡ 10) ⊎ (n ≡ 9)) (sym is) (too_long seed from to before after history left told e ends calm long));
     }

@@ -1,10 +1,10 @@
 -- What patterns over the words of a command tell.
 use Rattle.std.proofs.Common.{◌≡◌, ◌↔◌, ℕ, ◌<◌, ◌≤◌, ◌^◌, Bool, true, false, List, [], ◌∷◌, refl, sym, ap, ◌∙◌, arith, length, get_or}
-use Rattle.std.specs.Prelude.{Option, Some, None, IfSome, IfNone, IsTrue, codes, ◌≢◌, nat_eq, slice_index_or, is_some}
+use Rattle.std.specs.Prelude.{Option, Some, None, MatchOption, IfSome, IfNone, IsTrue, codes, ◌≢◌, nat_eq, slice_index_or}
 use Rattle.std.proofs.lemmas.Bool.{false≢true}
 use Rattle.std.specs.Fmt.{decimal}
 use Rattle.std.specs.Cmp.Lexicographic.{pointwise, same_text, other_text}
-use Rattle.famrun.specs.Ending.{IsSim}
+use Rattle.famrun.specs.Ending.{IsSim, HasSeed}
 
 -- one item
 pub one_item : {A : Type 0} → (xs : List A) (x : A) → 1 ≤ length xs → length xs < 2 → x ≡ slice_index_or xs 0 x → xs ≡ x ∷ []
@@ -27,18 +27,23 @@ told_alone words only word text false alone same is =
     (λ t. absurd (false≢true t), λ e. absurd (other_text text word is (same ∙ ap (λ ws. get_or ws 0 word) (sym alone ∙ e))))
 
 -- the first of two words is `sim`, and the other was read as a number
-pub told_sim : (words : List (List ℕ)) (name seed name_text seed_text : List ℕ) (found : Option ℕ) (r : Bool) → words ≡ name ∷ seed ∷ [] →
+pub has_seed : (words : List (List ℕ)) (name seed name_text seed_text : List ℕ) (n : ℕ) → words ≡ name ∷ seed ∷ [] →
+    name_text ≡ name → true ≡ pointwise nat_eq name_text (codes "sim") → seed_text ≡ seed → n < 2 ^ 64 → seed_text ≡ decimal n → HasSeed words n
+has_seed words name seed name_text seed_text n two name_is is_name seed_is low same =
+    record {
+      low = low;
+      words_are = two ∙ ap (λ w. w ∷ seed ∷ []) (sym name_is ∙ same_text name_text (codes "sim") is_name)
+          ∙ ap (λ w. codes "sim" ∷ w ∷ []) (sym seed_is ∙ same);
+    }
+
+pub no_seed : (words : List (List ℕ)) (name seed seed_text : List ℕ) → words ≡ name ∷ seed ∷ [] → seed_text ≡ seed → ((n : ℕ) → n < 2 ^ 64 → seed_text ≢ decimal n) → ¬ IsSim words
+no_seed words name seed seed_text two seed_is none sim =
+    none sim.0 sim.1.low (seed_is ∙ ap (λ ws. get_or ws 1 seed) (sym two ∙ sim.1.words_are))
+
+-- what was found of the seed
+pub seed_told : (words : List (List ℕ)) (name seed name_text seed_text : List ℕ) (found : Option ℕ) → words ≡ name ∷ seed ∷ [] →
     name_text ≡ name → true ≡ pointwise nat_eq name_text (codes "sim") → seed_text ≡ seed →
     IfSome found (λ n. (n < 2 ^ 64) × (seed_text ≡ decimal n)) → IfNone found ((n : ℕ) → n < 2 ^ 64 → seed_text ≢ decimal n) →
-    r ≡ is_some found → IsTrue r ↔ IsSim words
-told_sim words name seed name_text seed_text (Some n) r two name_is is_name seed_is some none is = (
-  λ t. record {
-    seed = n;
-    low = some.0;
-    words_are = two ∙ ap (λ w. w ∷ seed ∷ []) (sym name_is ∙ same_text name_text (codes "sim") is_name)
-        ∙ ap (λ w. codes "sim" ∷ w ∷ []) (sym seed_is ∙ some.1);
-  },
-  λ sim. is,
-)
-told_sim words name seed name_text seed_text None r two name_is is_name seed_is some none is =
-    (λ t. absurd (false≢true (sym is ∙ t)), λ sim. absurd (none sim.seed sim.low (seed_is ∙ ap (λ ws. get_or ws 1 seed) (sym two ∙ sim.words_are))))
+    MatchOption found (¬ IsSim words) (HasSeed words)
+seed_told words name seed name_text seed_text (Some n) two name_is is_name seed_is some none = has_seed words name seed name_text seed_text n two name_is is_name seed_is some.0 some.1
+seed_told words name seed name_text seed_text None two name_is is_name seed_is some none = no_seed words name seed seed_text two seed_is none

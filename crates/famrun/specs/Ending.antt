@@ -1,6 +1,6 @@
 -- How a simulation ends: its status, its output and its history.
 use Rattle.std.specs.Global.{Global}
-use Rattle.std.specs.Prelude.{Vec, Result, Ok, Err, ◌↔◌, IfSome, ◌≡◌, ℕ, ◌++◌, ◌∷◌, ◌+◌, ◌^◌, ◌<◌, ◌≤◌, ◌⊎◌, List, [], length, codes}
+use Rattle.std.specs.Prelude.{Vec, Bool, true, false, Result, Ok, Err, ◌↔◌, IfSome, ◌≡◌, ℕ, ◌++◌, ◌∷◌, ◌+◌, ◌^◌, ◌<◌, ◌≤◌, ◌⊎◌, List, [], length, codes}
 use Rattle.std.specs.Fmt.{decimal}
 use Rattle.std.specs.Io.KnownBytes.{Appends, IsAtEnd}
 use Rattle.fam_base.specs.Causes.{Rose}
@@ -10,8 +10,9 @@ use Rattle.fam_model.specs.declared.script.Script.{Script}
 use Rattle.fam_model.specs.Headline.{IsRun, HasEnded}
 use Rattle.fam_model.specs.ReportText.{report_of, report_text}
 use Rattle.fam_model.specs.Rows.{common_rows}
+use Rattle.fam_model.specs.Grammar.{IsScript}
+use Rattle.fam_schedule.specs.Schedule.{IsScheduled}
 use Rattle.fam_script.specs.BadLine.{IsBadLine}
-use Rattle.fam_script.specs.Form.{IsPlayedScript}
 use Rattle.fam_base.specs.declared.error.NoMemory.{NoMemory as NoMemoryError}
 use Rattle.famrun.specs.declared.ending.Ending.{Ending}
 use Rattle.famrun.specs.declared.ending.Ending.TheVariants.{Told, BadWords, BadLine, ReadFault, WriteFault, NoMemory, TooLong}
@@ -28,11 +29,14 @@ status_of TooLong = 10
 
 -- words
 
--- the words of `sim`: a seed below 2^64 in its decimal digits
-pub record IsSim (words : List (List ℕ)) : Type 0 where
-  pub seed : ℕ
+-- the words of `sim` with this seed, which is below 2^64, in its decimal digits
+pub record HasSeed (words : List (List ℕ)) (seed : ℕ) : Type 0 where
   pub low : seed < 2 ^ 64
   pub words_are : words ≡ codes "sim" ∷ decimal seed ∷ []
+
+-- the words of `sim`
+abbrev pub IsSim : List (List ℕ) → Type 0
+IsSim words = (seed : ℕ) × HasSeed words seed
 
 -- input
 
@@ -46,7 +50,7 @@ pub record ReadsScript (from to : SourceState) (script : Script) : Type 0 where
   pub read : Moves from to bytes
   pub end : IsAtEnd to.left
   pub within : length bytes ≤ input_limit
-  pub is_script : IsPlayedScript bytes script
+  pub is_script : IsScript bytes script
 
 -- the source was read to its end, and what was left in it is no script: line n is the first bad one
 pub record ReadsBadLine (from to : SourceState) (n : ℕ) : Type 0 where
@@ -67,33 +71,38 @@ pub record Tells (before after : SinkState) (line : List ℕ) : Type 0 where
 abbrev pub report : Script → List Event → List ℕ
 report script history = report_text (report_of (length script.programs) common_rows history)
 
+-- a run of a script, or the run so far: it is legal, and the one that the schedule gives for the seed
+pub record IsPlayed (seed : ℕ) (script : Script) (history : List Event) (whole : Bool) : Type 0 where
+  pub run : IsRun common_rows script history
+  pub scheduled : IsScheduled common_rows script seed history whole
+  pub ended : whole ≡ true → HasEnded common_rows script history
+
 -- the run so far, or nothing yet
-abbrev pub IsSoFar : SourceState → SourceState → List Event → Type 0
-IsSoFar from to history =
-    (history ≡ []) ⊎ ((script : Script) × ReadsScript from to script × IsRun common_rows script history)
+abbrev pub IsSoFar : ℕ → SourceState → SourceState → List Event → Type 0
+IsSoFar seed from to history =
+    (history ≡ []) ⊎ ((script : Script) × ReadsScript from to script × IsPlayed seed script history false)
 
 -- the whole run of a script
-pub record RunsScript (from to : SourceState) (script : Script) (history : List Event) : Type 0 where
+pub record RunsScript (seed : ℕ) (from to : SourceState) (script : Script) (history : List Event) : Type 0 where
   pub reads : ReadsScript from to script
-  pub run : IsRun common_rows script history
-  pub ended : HasEnded common_rows script history
+  pub played : IsPlayed seed script history true
 
 -- a simulation of what the source has left ends like this, with this history
-abbrev pub SimEnds : SourceState → SourceState → SinkState → SinkState → List Event → Ending → Type 0
-SimEnds from to before after history Told =
-    (script : Script) × RunsScript from to script history × Appends before.written after.written (report script history)
-SimEnds from to before after history WriteFault =
-    (script : Script) × RunsScript from to script history × AddsPrefix before after (report script history)
+abbrev pub SimEnds : ℕ → SourceState → SourceState → SinkState → SinkState → List Event → Ending → Type 0
+SimEnds seed from to before after history Told =
+    (script : Script) × RunsScript seed from to script history × Appends before.written after.written (report script history)
+SimEnds seed from to before after history WriteFault =
+    (script : Script) × RunsScript seed from to script history × AddsPrefix before after (report script history)
     × Rose before.faults after.faults
-SimEnds from to before after history (BadLine n) =
+SimEnds seed from to before after history (BadLine n) =
     ReadsBadLine from to n × (history ≡ []) × Tells before after (codes "bad line " ++ (decimal n ++ codes "\n"))
-SimEnds from to before after history ReadFault =
+SimEnds seed from to before after history ReadFault =
     Rose from.faults to.faults × (history ≡ []) × Tells before after (codes "read fault\n")
-SimEnds from to before after history TooLong =
+SimEnds seed from to before after history TooLong =
     MovesExactly from to (input_limit + 1) × (history ≡ []) × Tells before after (codes "too long\n")
-SimEnds from to before after history NoMemory =
-    IsSoFar from to history × Tells before after (codes "no memory\n")
-SimEnds from to before after history BadWords = ⊥
+SimEnds seed from to before after history NoMemory =
+    IsSoFar seed from to history × Tells before after (codes "no memory\n")
+SimEnds seed from to before after history BadWords = ⊥
 
 -- the outcome
 
@@ -107,15 +116,15 @@ pub record SimOutcome (words : List (List ℕ)) (from to : SourceState) (before 
   pub bad_words : (status ≡ 2) ↔ (¬ IsSim words)
   pub refused : ¬ IsSim words → (to ≡ from) × (history ≡ []) × Tells before after (codes "bad words\n")
   -- else it ends in one of these ways, with the status of that way
-  pub ends : IsSim words → (ending : Ending) × (status ≡ status_of ending) × SimEnds from to before after history ending
+  pub ends : (sim : IsSim words) → (ending : Ending) × (status ≡ status_of ending) × SimEnds sim.0 from to before after history ending
   -- at most one byte more than an input may have is read
   pub most : MovesUpTo from to (input_limit + 1)
   -- a script is run and reported, unless a call of the outside fails or memory is wanting
   pub complete : IsSim words → IsCalm from to before after →
-      IfSome from.left (λ bytes. length bytes ≤ input_limit → (script : Script) → IsPlayedScript bytes script → (status ≡ 0) ⊎ (status ≡ 9))
+      IfSome from.left (λ bytes. length bytes ≤ input_limit → (script : Script) → IsScript bytes script → (status ≡ 0) ⊎ (status ≡ 9))
   -- what is no script is told to be none
   pub no_script : IsSim words → IsCalm from to before after →
-      IfSome from.left (λ bytes. length bytes ≤ input_limit → ((script : Script) → ¬ IsPlayedScript bytes script) → (status ≡ 3) ⊎ (status ≡ 9))
+      IfSome from.left (λ bytes. length bytes ≤ input_limit → ((script : Script) → ¬ IsScript bytes script) → (status ≡ 3) ⊎ (status ≡ 9))
   -- and an input with too many bytes to have them
   pub too_long : IsSim words → IsCalm from to before after →
       IfSome from.left (λ bytes. input_limit < length bytes → (status ≡ 10) ⊎ (status ≡ 9))
@@ -154,10 +163,20 @@ Writes (Err e) before after NoMemory = Tells before after (codes "no memory\n")
 Writes _ before after _ = ⊥
 
 -- a run was reported, or why not
-abbrev pub ReportsRun : Script → List Event → SinkState → SinkState → Ending → Type 0
-ReportsRun script history before after Told =
-    HasEnded common_rows script history × Appends before.written after.written (report script history)
-ReportsRun script history before after WriteFault =
-    HasEnded common_rows script history × AddsPrefix before after (report script history) × Rose before.faults after.faults
-ReportsRun script history before after NoMemory = Tells before after (codes "no memory\n")
-ReportsRun script history before after _ = ⊥
+abbrev pub ReportsRun : Script → List Event → Bool → SinkState → SinkState → Ending → Type 0
+ReportsRun script history whole before after Told =
+    (whole ≡ true) × Appends before.written after.written (report script history)
+ReportsRun script history whole before after WriteFault =
+    (whole ≡ true) × AddsPrefix before after (report script history) × Rose before.faults after.faults
+ReportsRun script history whole before after NoMemory = Tells before after (codes "no memory\n")
+ReportsRun script history whole before after _ = ⊥
+
+-- a script was played and reported, or why not
+abbrev pub PlaysScript : ℕ → Script → List Event → SinkState → SinkState → Ending → Type 0
+PlaysScript seed script history before after Told =
+    IsPlayed seed script history true × Appends before.written after.written (report script history)
+PlaysScript seed script history before after WriteFault =
+    IsPlayed seed script history true × AddsPrefix before after (report script history) × Rose before.faults after.faults
+PlaysScript seed script history before after NoMemory =
+    IsPlayed seed script history false × Tells before after (codes "no memory\n")
+PlaysScript seed script history before after _ = ⊥

@@ -6,12 +6,9 @@
 
 mod command;
 mod ending;
-mod item;
-mod play;
 mod sim;
 #[cfg(test)]
 mod tests;
-mod turn;
 
 use crate::command::fam_main;
 use crate::ending::Ending;

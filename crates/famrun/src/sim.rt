@@ -1,27 +1,23 @@
 //! The command `sim`: reads a script, plays it on one thread, and reports its history.
 
-ghost use Rattle.std.specs.Prelude.{◌≡◌, ◌+◌, ◌↔◌, map, string_bytes, true, codes, IsTrue, IfOk, IfErr};
+ghost use Rattle.std.specs.Prelude.{◌≡◌, ◌+◌, map, string_bytes, true, length, codes, IfOk, IfErr, MatchOption};
 ghost use Rattle.fam_io.specs.State.{MovesUpTo};
-ghost use Rattle.fam_model.specs.Headline.{IsRun};
-ghost use Rattle.fam_model.specs.Rows as rows_spec;
-ghost use Rattle.fam_script.specs.Form.{is_played};
-ghost use Rattle.famrun.specs.Ending.{input_limit, IsSim, IsTold, ReadsScript, ReportsRun, SimEnds, SimOutcome, Tells, Unread, Writes};
-ghost use Rattle.famrun.specs.Running.{EndsRun};
+ghost use Rattle.fam_model.specs.Grammar.{IsLawfulScript};
+ghost use Rattle.fam_model.specs.ReportText as texts;
+ghost use Rattle.famrun.specs.Ending.{input_limit, HasSeed, IsSim, IsTold, PlaysScript, ReadsScript, ReportsRun, SimEnds, SimOutcome, Tells, Unread, Writes};
 
 use crate::ending::Ending;
-use crate::play::{Played, play};
-use fam_base::{Bytes, ItemId, Mode, NoMemory, RegionId, Sequence};
+use fam_base::{NoMemory, Sequence};
+use fam_core::{Simulated, simulate};
 use fam_io::{ReadFault, Sink, Source, read_all, write_all};
-use fam_model::{Event, ItemRow, RegionRow, Report, Rows, Script};
+use fam_model::{Event, Report, Script};
+use fam_rows::common_rows;
 use fam_script::{ScriptFault, number_in, parse};
 use fam_text::text_of;
 use std::alloc::Global;
 
 /// The most bytes that an input may have.
 const INPUT_LIMIT: usize = 16_777_216;
-
-/// A user and a group that no program has.
-const NOBODY: u32 = 4_294_967_295;
 
 /// What a command leaves: the status of its process, and the history of its run.
 #[derive(Drop)]
@@ -32,13 +28,13 @@ pub struct Outcome {
     pub history: Vec<Event>,
 }
 
-/// Whether the words are those of `sim`.
-fn is_sim(words: &[String]) -> bool
-    ensures { IsTrue result ↔ IsSim (map string_bytes words.now) }
+/// The seed, where the words are those of `sim`.
+fn seed_of(words: &[String]) -> Option<u64>
+    ensures { MatchOption result (¬ IsSim (map string_bytes words.now)) (HasSeed (map string_bytes words.now)) }
 {
     match words {
-        [name, seed] => name.as_str() == "sim" && number_in(seed.as_bytes()).is_some(),
-        _ => false,
+        [name, seed] if name.as_str() == "sim" => number_in(seed.as_bytes()),
+        _ => None,
     }
 }
 
@@ -65,38 +61,6 @@ fn read_script<S: Source>(alloc: Global, input: &mut S) -> Result<Script, Ending
         Err(ReadFault::Failed) => Err(Ending::ReadFault),
         Err(ReadFault::TooLong) => Err(Ending::TooLong),
     }
-}
-
-/// The rows that every directory has.
-fn common_rows(alloc: Global) -> Result<Rows, NoMemory>
-    ensures { IfOk result (λ rows. rows ≡ rows_spec.common_rows) }
-{
-    let mut regions = Sequence::new(alloc);
-    regions.push(RegionRow {
-        number: RegionId(0),
-        uid: NOBODY,
-        gid: NOBODY,
-        mode: Mode::of(0o444).unwrap(),
-        size: 4096,
-        name: Bytes::of(alloc, b"common")?,
-    })?;
-    let mut items = Sequence::new(alloc);
-    items.push(ItemRow {
-        number: ItemId(0),
-        region: RegionId(0),
-        base: 0,
-        size: 4096,
-        uid: NOBODY,
-        gid: NOBODY,
-        mode: Mode::of(0o666).unwrap(),
-        name: Bytes::of(alloc, b"common")?,
-    })?;
-    Ok(Rows {
-        regions,
-        items,
-        next_region: 1,
-        next_item: 1,
-    })
 }
 
 /// Tells why no script was read. Where there is no memory for the line, that is told.
@@ -154,18 +118,18 @@ fn write_report<K: Sink>(text: Result<Vec<u8>, NoMemory>, output: &mut K) -> End
 fn report_run<K: Sink>(
     alloc: Global,
     script: &Script,
-    played: Played,
+    simulated: Simulated,
     output: &mut K,
 ) -> (Ending, Vec<Event>)
-    requires { played.whole ≡ true → EndsRun script.now played.history.items played.replies.items }
-    ensures history { result.1.items ≡ played.history.items }
-    ensures ending { ReportsRun script.now played.history.items (K.sink output.old) (K.sink output.new) result.0 }
+    requires { simulated.whole ≡ true → simulated.replies.items ≡ texts.reply_lines (length script.now.programs) simulated.history.items }
+    ensures history { result.1.items ≡ simulated.history.items }
+    ensures ending { ReportsRun script.now simulated.history.items simulated.whole (K.sink output.old) (K.sink output.new) result.0 }
 {
-    let Played {
+    let Simulated {
         history,
         replies,
         whole,
-    } = played;
+    } = simulated;
     // The contract alone speaks of it.
     let _script = script;
     if !whole {
@@ -186,38 +150,48 @@ fn report_run<K: Sink>(
 }
 
 /// Plays a script and reports the run.
-fn play_script<K: Sink>(alloc: Global, script: &Script, output: &mut K) -> (Ending, Vec<Event>)
-    requires { is_played script.now ≡ true }
-    ensures run { IsRun rows_spec.common_rows script.now result.1.items }
-    ensures ending { ReportsRun script.now result.1.items (K.sink output.old) (K.sink output.new) result.0 }
+fn play_script<K: Sink>(
+    alloc: Global,
+    script: &Script,
+    seed: u64,
+    output: &mut K,
+) -> (Ending, Vec<Event>)
+    requires { IsLawfulScript script.now }
+    ensures { PlaysScript seed script.now result.1.items (K.sink output.old) (K.sink output.new) result.0 }
 {
-    let played = play(alloc, script);
-    report_run(alloc, script, played, output)
+    let rows = match common_rows(alloc) {
+        Ok(rows) => rows,
+        Err(NoMemory) => return (tell_no_memory(output), Vec::new(alloc)),
+    };
+    let simulated = simulate(alloc, rows, script, seed);
+    report_run(alloc, script, simulated, output)
 }
 
 /// Simulates what the source has left.
-fn simulate<S: Source, K: Sink>(
+fn simulate_source<S: Source, K: Sink>(
     alloc: Global,
+    seed: u64,
     input: &mut S,
     output: &mut K,
 ) -> (Ending, Vec<Event>)
-    ensures ends { SimEnds (S.source input.old) (S.source input.new) (K.sink output.old) (K.sink output.new)
+    ensures ends { SimEnds seed (S.source input.old) (S.source input.new) (K.sink output.old) (K.sink output.new)
         result.1.items result.0 }
     ensures most { MovesUpTo (S.source input.old) (S.source input.new) (input_limit + 1) }
 {
     match read_script(alloc, input) {
-        Ok(script) => play_script(alloc, &script, output),
+        Ok(script) => play_script(alloc, &script, seed, output),
         Err(ending) => (tell_unread(alloc, output, ending), Vec::new(alloc)),
     }
 }
 
-/// The command `sim SEED`: reads a script from the source, plays it, and writes the report of its history.
+/// The command `sim SEED`: reads a script from the source, plays its programs side by side in the order that the seed draws,
+/// and writes the report of the history.
 ///
-/// The history is one legal run of the memory machine that follows the script, also where a write failed or memory was
-/// wanting; it is then the run so far.
+/// The history is one legal run of the memory machine that follows the script, and the one that the schedule gives for the
+/// seed, also where a write failed or memory was wanting; it is then the run so far.
 ///
 /// The status is 0 where the report is written, and else tells why not, with a line on the output: 2 other words than
-/// those of `sim`, 3 the input is no script that is played, 4 the source failed, 9 memory was wanting, 10 the input has
+/// those of `sim`, 3 the input is no script, 4 the source failed, 9 memory was wanting, 10 the input has
 /// more than 16,777,216 bytes. At 5 the sink failed, and a prefix of the report is written. At 2, 3, 4 and 10 nothing was
 /// played, and at 2 nothing was read.
 pub fn sim_main<S: Source, K: Sink>(
@@ -229,14 +203,14 @@ pub fn sim_main<S: Source, K: Sink>(
     ensures { SimOutcome (map string_bytes words.now) (S.source input.old) (S.source input.new)
         (K.sink output.old) (K.sink output.new) result.status result.history.items }
 {
-    if !is_sim(words) {
+    let Some(seed) = seed_of(words) else {
         tell(output, b"bad words\n");
         return Outcome {
             status: Ending::BadWords.status(),
             history: Vec::new(alloc),
         };
-    }
-    let (ending, history) = simulate(alloc, input, output);
+    };
+    let (ending, history) = simulate_source(alloc, seed, input, output);
     Outcome {
         status: ending.status(),
         history,

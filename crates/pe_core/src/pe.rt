@@ -73,14 +73,14 @@ mod tests {
     use super::Pe;
     use fam_base::FamError;
     use fam_model::{Call, Reply};
-    use fam_script::{Form, parse_form};
+    use fam_script::parse;
     use std::alloc::Global;
     use std::test::Fail;
 
     /// How many calls the first program of these lines makes before it leaves, if each gets this reply.
     fn calls(alloc: Global, lines: &str, reply: &Reply) -> Result<u32, Fail> {
         let text = format!(in alloc; "service 1 1 64\npe 5 5\n{lines}end\nstop\n")?;
-        let script = parse_form(alloc, Form::Grammar, text.as_bytes())?;
+        let script = parse(alloc, text.as_bytes())?;
         if script.programs.is_empty() {
             return Ok(0);
         }

@@ -1,12 +1,13 @@
 //! Contexts that are opened and fenced, and which of them has an operation.
 
-ghost use Rattle.std.specs.Prelude.{◌≡◌, ◌<◌, [], Some, IsFalse, IsTrue, slice_set};
+ghost use Rattle.std.specs.Prelude.{◌≡◌, ◌<◌, [], Some, IsFalse, IsTrue, slice_get, slice_set};
 ghost use Rattle.fam_model.specs.ContextStep as steps;
 ghost use Rattle.fam_model.specs.EndStep as ends;
 ghost use Rattle.fam_model.specs.Limits.{number_end};
 ghost use Rattle.fam_model.specs.Programs as programs;
 ghost use Rattle.fam_model.specs.Operations.{is_pending};
 ghost use Rattle.std.specs.List.{list_any};
+ghost use Rattle.std.specs.Option.{option_copied, option_map};
 
 use super::Program;
 use crate::places::place_with;
@@ -32,6 +33,14 @@ impl Program {
             Some(there) => there.is_open(),
             None => false,
         }
+    }
+
+    /// A context, if it is there.
+    #[tactic(auto, using(crate::proofs::Contexts::context_at))]
+    pub fn context(&self, context: usize) -> Option<&Context>
+        ensures { option_map (λ t. t.context) (option_copied result) ≡ slice_get self.now.state.contexts context }
+    {
+        self.contexts.get(context)
     }
 
     /// The context that has the operation of a call.

@@ -5,7 +5,6 @@ ghost use Rattle.fam_model.specs.Grammar.{is_line};
 ghost use Rattle.fam_script.specs.Machine as machine;
 ghost use Rattle.fam_script.specs.Views.{view, Steps, Moves, Ends, GivesScript};
 
-use crate::script::form::Form;
 use crate::script::unfinished::Unfinished;
 use fam_base::{NoMemory, Sequence};
 use fam_model::{Line, Program, Script, Service, Statement};
@@ -24,33 +23,23 @@ pub enum Reading {
     Whole(Service, Sequence<Program>),
 }
 
-/// The lines with one more lawful one, if a script of the form begins with them.
-pub fn step(
-    alloc: Global,
-    form: Form,
-    reading: Reading,
-    line: Line,
-) -> Result<Option<Reading>, NoMemory>
+/// The lines with one more lawful one, if a script begins with them.
+pub fn step(alloc: Global, reading: Reading, line: Line) -> Result<Option<Reading>, NoMemory>
     requires { is_line line ≡ true }
-    ensures { IfOk result (λ next. Steps form reading line next) }
+    ensures { IfOk result (λ next. Steps reading line next) }
 {
-    if !form.allows(&line) {
-        return Ok(None);
-    }
     match reading {
-        Reading::Nothing => Ok(first_step(alloc, form, line)),
-        Reading::Between(service, programs) => {
-            Ok(between_step(alloc, form, service, programs, line))
-        }
+        Reading::Nothing => Ok(first_step(alloc, line)),
+        Reading::Between(service, programs) => Ok(between_step(alloc, service, programs, line)),
         Reading::Inside(service, programs, program) => {
-            inside_step(alloc, form, service, programs, program, line)
+            inside_step(alloc, service, programs, program, line)
         }
         Reading::Whole(_, _) => Ok(None),
     }
 }
 
-fn first_step(alloc: Global, form: Form, line: Line) -> Option<Reading>
-    ensures { Moves form machine.Nothing line result }
+fn first_step(alloc: Global, line: Line) -> Option<Reading>
+    ensures { Moves machine.Nothing line result }
 {
     match line {
         Line::Service(service) => Some(Reading::Between(service, Sequence::new(alloc))),
@@ -60,15 +49,14 @@ fn first_step(alloc: Global, form: Form, line: Line) -> Option<Reading>
 
 fn between_step(
     alloc: Global,
-    form: Form,
     service: Service,
     programs: Sequence<Program>,
     line: Line,
 ) -> Option<Reading>
-    ensures { Moves form (machine.Between service programs) line result }
+    ensures { Moves (machine.Between service programs) line result }
 {
     match line {
-        Line::Pe(who) if programs.len() < form.most_programs() => Some(Reading::Inside(
+        Line::Pe(who) if programs.len() < 64 => Some(Reading::Inside(
             service,
             programs,
             Unfinished::new(alloc, who),
@@ -80,16 +68,15 @@ fn between_step(
 
 fn inside_step(
     alloc: Global,
-    form: Form,
     service: Service,
     programs: Sequence<Program>,
     program: Unfinished,
     line: Line,
 ) -> Result<Option<Reading>, NoMemory>
-    ensures { IfOk result (λ next. Moves form (machine.Inside service programs (view program)) line next) }
+    ensures { IfOk result (λ next. Moves (machine.Inside service programs (view program)) line next) }
 {
     if let Line::End = line {
-        return end_step(form, service, programs, program);
+        return end_step(service, programs, program);
     }
     match statement_step(alloc, program, line)? {
         Some(next) => Ok(Some(Reading::Inside(service, programs, next))),
@@ -133,14 +120,13 @@ fn statement_step(
 
 /// The end of the program.
 fn end_step(
-    form: Form,
     service: Service,
     mut programs: Sequence<Program>,
     program: Unfinished,
 ) -> Result<Option<Reading>, NoMemory>
-    ensures { IfOk result (λ next. Ends form service programs (view program) next) }
+    ensures { IfOk result (λ next. Ends service programs (view program) next) }
 {
-    let Some(program) = program.finish(form.most_statements()) else {
+    let Some(program) = program.finish() else {
         return Ok(None);
     };
     programs.push(program)?;

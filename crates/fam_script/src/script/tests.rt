@@ -1,11 +1,11 @@
-use super::{Form, ScriptFault, parse, parse_form};
+use super::{ScriptFault, parse};
 use ScriptFault::BadLine;
 use std::alloc::{AllocError, Global};
 use std::test::Fail;
 
 /// How many programs and how many statements of its own the first one has, or the bad line.
-fn shape(alloc: Global, form: Form, text: &str) -> Result<(usize, usize), ScriptFault> {
-    let script = parse_form(alloc, form, text.as_bytes())?;
+fn shape(alloc: Global, text: &str) -> Result<(usize, usize), ScriptFault> {
+    let script = parse(alloc, text.as_bytes())?;
     let statements = script
         .programs
         .get(0)
@@ -44,76 +44,8 @@ fn reads_whole_texts(rt: HostRuntime) {
         ("service 1 1 64\nstop\n\n", Err(BadLine(3))),
         ("service 1 1 64\nstop\n ", Err(BadLine(3))),
     ] {
-        assert_eq!(rt; shape(rt.alloc(), Form::Played, text), want, "{text}");
-        assert_eq!(rt; shape(rt.alloc(), Form::Grammar, text), want, "{text}");
+        assert_eq!(rt; shape(rt.alloc(), text), want, "{text}");
     }
-}
-
-#[test]
-fn reads_only_what_is_played(rt: HostRuntime) -> Result<(), Fail> {
-    for (text, played) in [
-        ("service 2 1 64\nstop\n", Err(BadLine(1))),
-        ("service 1 1 128\nstop\n", Err(BadLine(1))),
-        (
-            "service 1 1 64\npe 5 5\nend\npe 5 5\nend\nstop\n",
-            Err(BadLine(4)),
-        ),
-        (
-            "service 1 1 64\npe 5 5\nget c1 i0 4 4\nend\nstop\n",
-            Err(BadLine(3)),
-        ),
-        (
-            "service 1 1 64\npe 5 5\nget c0 i1 4 4\nend\nstop\n",
-            Err(BadLine(3)),
-        ),
-        (
-            "service 1 1 64\npe 5 5\nget-nb c0 i0 4 4\nend\nstop\n",
-            Err(BadLine(3)),
-        ),
-        (
-            "service 1 1 64\npe 5 5\nget c0 i0 0 65\nend\nstop\n",
-            Err(BadLine(3)),
-        ),
-        (
-            "service 1 1 64\npe 5 5\nget c0 i0 1 64\nend\nstop\n",
-            Err(BadLine(3)),
-        ),
-        (
-            "service 1 1 64\npe 5 5\nput c0 i0 63 0102\nend\nstop\n",
-            Err(BadLine(3)),
-        ),
-        (
-            "service 1 1 64\npe 5 5\nbarrier\nend\nstop\n",
-            Err(BadLine(3)),
-        ),
-        (
-            "service 1 1 64\npe 5 5\nrepeat 1\ndone\nend\nstop\n",
-            Err(BadLine(3)),
-        ),
-        (
-            "service 1 1 64\npe 5 5\nspin c0 i0 0 i64 0 1\nend\nstop\n",
-            Err(BadLine(3)),
-        ),
-        (
-            "service 1 1 64\npe 5 5\nget c0 i0 4096 1\nend\nstop\n",
-            Ok((1, 1)),
-        ),
-    ] {
-        assert_eq!(rt; shape(rt.alloc(), Form::Played, text), played, "{text}");
-        assert!(rt; shape(rt.alloc(), Form::Grammar, text).is_ok(), "{text}");
-    }
-    let gets = "get c0 i0 0 4\n".repeat(rt.alloc(), 64)?;
-    let text = program(rt.alloc(), gets.as_str())?;
-    assert!(rt; parse(rt.alloc(), text.as_bytes()).is_ok());
-    let text = program(
-        rt.alloc(),
-        format!(in rt.alloc(); "{gets}get c0 i0 0 4\n")?.as_str(),
-    )?;
-    assert_eq!(rt;
-        shape(rt.alloc(), Form::Played, text.as_str()),
-        Err(BadLine(68))
-    );
-    Ok(())
 }
 
 #[test]
@@ -159,11 +91,7 @@ fn reads_each_statement(rt: HostRuntime) -> Result<(), Fail> {
         "spin c0 i0 8 f64 0 1",
     ] {
         let text = program(rt.alloc(), format!(in rt.alloc(); "{line}\n")?.as_str())?;
-        assert_eq!(rt;
-            shape(rt.alloc(), Form::Grammar, text.as_str()),
-            Ok((1, 1)),
-            "{line}"
-        );
+        assert_eq!(rt; shape(rt.alloc(), text.as_str()), Ok((1, 1)), "{line}");
     }
     Ok(())
 }
@@ -251,11 +179,7 @@ fn refuses_each_wrong_word(rt: HostRuntime) -> Result<(), Fail> {
         "",
     ] {
         let text = program(rt.alloc(), format!(in rt.alloc(); "{line}\n")?.as_str())?;
-        assert_eq!(rt;
-            shape(rt.alloc(), Form::Grammar, text.as_str()),
-            Err(BadLine(3)),
-            "{line}"
-        );
+        assert_eq!(rt; shape(rt.alloc(), text.as_str()), Err(BadLine(3)), "{line}");
     }
     Ok(())
 }
@@ -279,11 +203,7 @@ fn reads_names_of_64_bytes(rt: HostRuntime) -> Result<(), Fail> {
         ),
     ] {
         let text = program(rt.alloc(), line.as_str())?;
-        assert_eq!(rt;
-            shape(rt.alloc(), Form::Grammar, text.as_str()),
-            want,
-            "{line}"
-        );
+        assert_eq!(rt; shape(rt.alloc(), text.as_str()), want, "{line}");
     }
     Ok(())
 }
@@ -319,11 +239,7 @@ fn reads_repeats_in_repeats(rt: HostRuntime) -> Result<(), Fail> {
         ),
     ] {
         let text = program(rt.alloc(), lines)?;
-        assert_eq!(rt;
-            shape(rt.alloc(), Form::Grammar, text.as_str()),
-            want,
-            "{lines}"
-        );
+        assert_eq!(rt; shape(rt.alloc(), text.as_str()), want, "{lines}");
     }
     Ok(())
 }
@@ -332,14 +248,8 @@ fn reads_repeats_in_repeats(rt: HostRuntime) -> Result<(), Fail> {
 fn reads_64_programs(rt: HostRuntime) -> Result<(), Fail> {
     let programs = "pe 1 1\nend\n".repeat(rt.alloc(), 64)?;
     let text = format!(in rt.alloc(); "service 8 8 65536\n{programs}stop\n")?;
-    assert_eq!(rt;
-        shape(rt.alloc(), Form::Grammar, text.as_str()),
-        Ok((64, 0))
-    );
+    assert_eq!(rt; shape(rt.alloc(), text.as_str()), Ok((64, 0)));
     let text = format!(in rt.alloc(); "service 8 8 65536\n{programs}pe 1 1\nend\nstop\n")?;
-    assert_eq!(rt;
-        shape(rt.alloc(), Form::Grammar, text.as_str()),
-        Err(BadLine(130))
-    );
+    assert_eq!(rt; shape(rt.alloc(), text.as_str()), Err(BadLine(130)));
     Ok(())
 }

@@ -1,6 +1,7 @@
 //! A program whose end has not come.
 
 ghost use Rattle.std.specs.Prelude.{◌≡◌, ◌+◌, ◌*◌, ◌≤◌, ◌<◌, ℕ, min, sum_by, IfOk, MatchOption, Some, None};
+ghost use Rattle.fam_model.specs.Grammar.{max_count};
 ghost use Rattle.fam_model.specs.ScriptText.{call_count};
 
 use fam_base::{NoMemory, Sequence, Who};
@@ -127,10 +128,9 @@ impl Unfinished {
         }))
     }
 
-    /// The program that ends here, where no repeat is open and its statements are within the limit.
-    pub fn finish(self, limit: u64) -> Option<Program>
-        requires { limit < 65_537 }
-        ensures { result ≡ finished limit self.who (view self).open_repeats self.block }
+    /// The program that ends here, where no repeat is open and its statements are not too many.
+    pub fn finish(self) -> Option<Program>
+        ensures { result ≡ finished max_count self.who (view self).open_repeats self.block }
     {
         let Unfinished {
             who,
@@ -138,7 +138,7 @@ impl Unfinished {
             block,
             count,
         } = self;
-        if open_repeats.is_empty() && count <= limit {
+        if open_repeats.is_empty() && count <= 65_536 {
             Some(Program {
                 who,
                 statements: block,

@@ -3,38 +3,44 @@ use Rattle.fam_context.specs.Order.{frame_of}
 use Rattle.fam_context.specs.Sides.{IsSideOf, flags_of}
 use Rattle.fam_context.proofs.Kept.{all_zip_at, side_there, kept_set, fits_set, flags_same, told_is}
 use Rattle.fam_context.proofs.Reached.{indexed_same}
+use Rattle.fam_model.specs.declared.piece.Operation.{Operation}
+use Rattle.fam_context.proofs.Told.{told_set}
 use Rattle.fam_context.proofs.context.Context.answer.Goals as goal
 
 pub give_result-reply-requires-clause-kept : goal.give_result-reply-requires-clause-kept
 give_result-reply-requires-clause-kept c =
     all_zip_at IsSideOf c.self.inside.context.operations c.self.inside.sides.items c.in-Some.at c.at_mut.result.now c.index_mut-side.result.now
-    c.self.invariant.kept.each c.at_mut.ensures.value
-    (side_there c.self.inside.context c.self.inside.sides.items c.in-Some.at c.at_mut.result.now c.index_mut-side.result.now c.self.invariant.kept.each
+    c.self.invariant.indexed.kept.each c.at_mut.ensures.value
+    (side_there c.self.inside.context c.self.inside.sides.items c.in-Some.at c.at_mut.result.now c.index_mut-side.result.now c.self.invariant.indexed.kept.each
     c.at_mut.ensures.value c.index_mut-side.ensures.value)
 
 pub recount-self-inside-requires : goal.recount-self-inside-requires
 recount-self-inside-requires c =
     fits_set c.self.inside.context c.self.inside.sides.items c.self.inside.pending c.self.inside.pieces c.in-Some.at c.at_mut.result.now
-    c.give_result-reply.new.operation c.index_mut-side.result.now c.give_result-reply.new.side c.self.invariant.kept (search rules) c.at_mut.ensures.value
-    (side_there c.self.inside.context c.self.inside.sides.items c.in-Some.at c.at_mut.result.now c.index_mut-side.result.now c.self.invariant.kept.each
+    c.give_result-reply.new.operation c.index_mut-side.result.now c.give_result-reply.new.side c.self.invariant.indexed.kept (search rules) c.at_mut.ensures.value
+    (side_there c.self.inside.context c.self.inside.sides.items c.in-Some.at c.at_mut.result.now c.index_mut-side.result.now c.self.invariant.indexed.kept.each
     c.at_mut.ensures.value c.index_mut-side.ensures.value)
     (ap frame_of c.give_result-reply.ensures.operation) c.give_result-reply.ensures.kept
 
 pub invariant_of-self : goal.invariant_of-self
 invariant_of-self c =
-    indexed_same c.self.inside.context c.self.inside.sides.items _ c.self.inside.pending c.recount-self-inside.result c.self.inside.pieces
-    c.self.inside.first c.in-Some.at c.at_mut.result.now c.give_result-reply.new.operation c.self.invariant c.at_mut.ensures.value c.give_result-reply.ensures.operation
-    (kept_set c.self.inside.context c.self.inside.sides.items c.self.inside.pending c.recount-self-inside.result c.self.inside.pieces c.in-Some.at
-    c.at_mut.result.now c.give_result-reply.new.operation c.index_mut-side.result.now c.give_result-reply.new.side c.self.invariant.kept
-    c.at_mut.ensures.value
-    (side_there c.self.inside.context c.self.inside.sides.items c.in-Some.at c.at_mut.result.now c.index_mut-side.result.now c.self.invariant.kept.each
-    c.at_mut.ensures.value c.index_mut-side.ensures.value)
-    (ap frame_of c.give_result-reply.ensures.operation) c.give_result-reply.ensures.kept c.recount-self-inside.ensures)
+    record {
+      indexed = indexed_same c.self.inside.context c.self.inside.sides.items _ c.self.inside.pending c.recount-self-inside.result c.self.inside.pieces
+          c.self.inside.first c.in-Some.at c.at_mut.result.now c.give_result-reply.new.operation c.self.invariant.indexed c.at_mut.ensures.value c.give_result-reply.ensures.operation
+          (kept_set c.self.inside.context c.self.inside.sides.items c.self.inside.pending c.recount-self-inside.result c.self.inside.pieces c.in-Some.at
+          c.at_mut.result.now c.give_result-reply.new.operation c.index_mut-side.result.now c.give_result-reply.new.side c.self.invariant.indexed.kept
+          c.at_mut.ensures.value
+          (side_there c.self.inside.context c.self.inside.sides.items c.in-Some.at c.at_mut.result.now c.index_mut-side.result.now c.self.invariant.indexed.kept.each
+          c.at_mut.ensures.value c.index_mut-side.ensures.value)
+          (ap frame_of c.give_result-reply.ensures.operation) c.give_result-reply.ensures.kept c.recount-self-inside.ensures);
+      settled = told_set c.self.inside.context.operations c.self.inside.told c.in-Some.at c.at_mut.result.now c.give_result-reply.new.operation
+          c.self.invariant.settled c.at_mut.ensures.value (λ _. ap (λ (o : Operation). o.reported) c.give_result-reply.ensures.operation);
+    }
 
 pub returns-clause-after : goal.returns-clause-after
 returns-clause-after c = rw (← c.self.view_is)
     (told_is c.self.inside.context (flags_of c.self.inside.sides.items) _ c.args.call c.in-Some.at c.at_mut.result.now c.give_result-reply.new.operation
     (search rules) c.at_mut.ensures.value c.give_result-reply.ensures.operation
     (flags_same c.self.inside.sides.items c.in-Some.at c.index_mut-side.result.now c.give_result-reply.new.side
-    (side_there c.self.inside.context c.self.inside.sides.items c.in-Some.at c.at_mut.result.now c.index_mut-side.result.now c.self.invariant.kept.each
+    (side_there c.self.inside.context c.self.inside.sides.items c.in-Some.at c.at_mut.result.now c.index_mut-side.result.now c.self.invariant.indexed.kept.each
     c.at_mut.ensures.value c.index_mut-side.ensures.value) c.give_result-reply.ensures.flags))

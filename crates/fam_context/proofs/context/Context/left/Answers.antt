@@ -9,8 +9,8 @@ pub overflow_add-result : goal.overflow_add-result
 overflow_add-result c =
     let few = few_counts c.at.result.now c.index-side.result.now
     (all_zip_at IsSideOf c.self.inside.context.operations c.self.inside.sides.items c.in-Some.at c.at.result.now c.index-side.result.now
-    c.self.invariant.kept.each c.at.ensures
-    (side_there c.self.inside.context c.self.inside.sides.items c.in-Some.at c.at.result.now c.index-side.result.now c.self.invariant.kept.each
+    c.self.invariant.indexed.kept.each c.at.ensures
+    (side_there c.self.inside.context c.self.inside.sides.items c.in-Some.at c.at.result.now c.index-side.result.now c.self.invariant.indexed.kept.each
     c.at.ensures c.index-side.ensures))
     in
     omega (arith, few)
@@ -19,6 +19,6 @@ pub returns : goal.returns
 returns c = rw (← c.self.view_is)
     (left_is c.self.inside.context c.args.call c.in-Some.at c.at.result.now c.index-side.result.now (search rules) c.at.ensures c.if-at.false
     (all_zip_at IsSideOf c.self.inside.context.operations c.self.inside.sides.items c.in-Some.at c.at.result.now c.index-side.result.now
-    c.self.invariant.kept.each c.at.ensures
-    (side_there c.self.inside.context c.self.inside.sides.items c.in-Some.at c.at.result.now c.index-side.result.now c.self.invariant.kept.each
+    c.self.invariant.indexed.kept.each c.at.ensures
+    (side_there c.self.inside.context c.self.inside.sides.items c.in-Some.at c.at.result.now c.index-side.result.now c.self.invariant.indexed.kept.each
     c.at.ensures c.index-side.ensures)))

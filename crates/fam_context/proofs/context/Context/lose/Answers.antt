@@ -10,20 +10,22 @@ use Rattle.std.specs.Prelude.{slice_set}
 use Rattle.std.specs.List.{position_or_len}
 use Rattle.fam_context.specs.Sides.{AreIdleBut, is_busy}
 use Rattle.fam_context.proofs.Reached.{idle_set, indexed_from}
+use Rattle.fam_model.specs.declared.piece.Operation.{Operation}
+use Rattle.fam_context.proofs.Told.{told_set, reported_lost}
 use Rattle.fam_context.proofs.context.Context.lose.Goals as goal
 
 pub lose-requires-clause-kept : goal.lose-requires-clause-kept
 lose-requires-clause-kept c =
     all_zip_at IsSideOf c.self.inside.context.operations c.self.inside.sides.items c.in-Some.at c.at_mut.result.now c.index_mut-side.result.now
-    c.self.invariant.kept.each c.at_mut.ensures.value
-    (side_there c.self.inside.context c.self.inside.sides.items c.in-Some.at c.at_mut.result.now c.index_mut-side.result.now c.self.invariant.kept.each
+    c.self.invariant.indexed.kept.each c.at_mut.ensures.value
+    (side_there c.self.inside.context c.self.inside.sides.items c.in-Some.at c.at_mut.result.now c.index_mut-side.result.now c.self.invariant.indexed.kept.each
     c.at_mut.ensures.value c.index_mut-side.ensures.value)
 
 pub recount-self-inside-requires : goal.recount-self-inside-requires
 recount-self-inside-requires c =
     fits_set c.self.inside.context c.self.inside.sides.items c.self.inside.pending c.self.inside.pieces c.in-Some.at c.at_mut.result.now
-    c.lose.new.operation c.index_mut-side.result.now c.lose.new.side c.self.invariant.kept (search rules) c.at_mut.ensures.value
-    (side_there c.self.inside.context c.self.inside.sides.items c.in-Some.at c.at_mut.result.now c.index_mut-side.result.now c.self.invariant.kept.each
+    c.lose.new.operation c.index_mut-side.result.now c.lose.new.side c.self.invariant.indexed.kept (search rules) c.at_mut.ensures.value
+    (side_there c.self.inside.context c.self.inside.sides.items c.in-Some.at c.at_mut.result.now c.index_mut-side.result.now c.self.invariant.indexed.kept.each
     c.at_mut.ensures.value c.index_mut-side.ensures.value)
     (ap frame_of c.lose.ensures.operation ∙ frame_lost c.at_mut.result.now c.args.piece) c.lose.ensures.kept
 
@@ -31,27 +33,32 @@ pub advance-self-inside-requires : goal.advance-self-inside-requires
 advance-self-inside-requires c =
     subst (λ ss. AreIdleBut ss c.self.inside.first c.in-Some.at) (sym c.as_slice.ensures.value)
     (idle_set c.self.inside.context c.self.inside.sides.items c.self.inside.pending c.self.inside.pieces c.self.inside.first c.in-Some.at
-    c.index_mut-side.result.now c.lose.new.side c.self.invariant
-    (side_there c.self.inside.context c.self.inside.sides.items c.in-Some.at c.at_mut.result.now c.index_mut-side.result.now c.self.invariant.kept.each
+    c.index_mut-side.result.now c.lose.new.side c.self.invariant.indexed
+    (side_there c.self.inside.context c.self.inside.sides.items c.in-Some.at c.at_mut.result.now c.index_mut-side.result.now c.self.invariant.indexed.kept.each
     c.at_mut.ensures.value c.index_mut-side.ensures.value))
 
 pub invariant_of-self : goal.invariant_of-self
 invariant_of-self c =
-    indexed_from _ (slice_set c.self.inside.sides.items c.in-Some.at c.lose.new.side) c.recount-self-inside.result c.self.inside.pieces
-    c.advance-self-inside.result
-    (kept_set c.self.inside.context c.self.inside.sides.items c.self.inside.pending c.recount-self-inside.result c.self.inside.pieces c.in-Some.at
-    c.at_mut.result.now c.lose.new.operation c.index_mut-side.result.now c.lose.new.side c.self.invariant.kept
-    c.at_mut.ensures.value
-    (side_there c.self.inside.context c.self.inside.sides.items c.in-Some.at c.at_mut.result.now c.index_mut-side.result.now c.self.invariant.kept.each
-    c.at_mut.ensures.value c.index_mut-side.ensures.value)
-    (ap frame_of c.lose.ensures.operation ∙ frame_lost c.at_mut.result.now c.args.piece) c.lose.ensures.kept
-    c.recount-self-inside.ensures)
-    (c.advance-self-inside.ensures ∙ ap (position_or_len is_busy) c.as_slice.ensures.value)
+    record {
+      indexed = indexed_from _ (slice_set c.self.inside.sides.items c.in-Some.at c.lose.new.side) c.recount-self-inside.result c.self.inside.pieces
+          c.advance-self-inside.result
+          (kept_set c.self.inside.context c.self.inside.sides.items c.self.inside.pending c.recount-self-inside.result c.self.inside.pieces c.in-Some.at
+          c.at_mut.result.now c.lose.new.operation c.index_mut-side.result.now c.lose.new.side c.self.invariant.indexed.kept
+          c.at_mut.ensures.value
+          (side_there c.self.inside.context c.self.inside.sides.items c.in-Some.at c.at_mut.result.now c.index_mut-side.result.now c.self.invariant.indexed.kept.each
+          c.at_mut.ensures.value c.index_mut-side.ensures.value)
+          (ap frame_of c.lose.ensures.operation ∙ frame_lost c.at_mut.result.now c.args.piece) c.lose.ensures.kept
+          c.recount-self-inside.ensures)
+          (c.advance-self-inside.ensures ∙ ap (position_or_len is_busy) c.as_slice.ensures.value);
+      settled = told_set c.self.inside.context.operations c.self.inside.told c.in-Some.at c.at_mut.result.now c.lose.new.operation
+          c.self.invariant.settled c.at_mut.ensures.value
+          (λ e. ap (λ (o : Operation). o.reported) c.lose.ensures.operation ∙ (reported_lost c.at_mut.result.now c.args.piece ∙ e));
+    }
 
 pub returns : goal.returns
 returns c = rw (← c.self.view_is)
     (lost_is c.self.inside.context (flags_of c.self.inside.sides.items) _ c.args.call c.args.piece c.in-Some.at
     c.at_mut.result.now c.lose.new.operation (search rules) c.at_mut.ensures.value c.lose.ensures.operation
     (flags_set c.self.inside.sides.items c.in-Some.at c.index_mut-side.result.now c.lose.new.side (change_place c.args.piece (λ _. false))
-    (side_there c.self.inside.context c.self.inside.sides.items c.in-Some.at c.at_mut.result.now c.index_mut-side.result.now c.self.invariant.kept.each
+    (side_there c.self.inside.context c.self.inside.sides.items c.in-Some.at c.at_mut.result.now c.index_mut-side.result.now c.self.invariant.indexed.kept.each
     c.at_mut.ensures.value c.index_mut-side.ensures.value) c.lose.ensures.flags))

@@ -11,8 +11,8 @@ returns-in-None-clause-bad_line c = λ n e.
     let text = c.in-Some.text.now in
     let before = view_reading c.loop-text.reading in
     c.loop-text.invariant.same
-    ∙ scan_bad c.loop-text.rest.now text c.in-Some.others.now c.in-Some.ensures.parts c.args.form c.loop-text.lines before
-    (none_made c.args.form before text c.in_ok-next.field-0 c.in_ok-next.ensures c.in-None.is)
+    ∙ scan_bad c.loop-text.rest.now text c.in-Some.others.now c.in-Some.ensures.parts c.loop-text.lines before
+    (none_made before text c.in_ok-next.field-0 c.in_ok-next.ensures c.in-None.is)
     ∙ ap bad n-is
 
 pub loop-text-preserved : goal.loop-text-preserved
@@ -22,7 +22,7 @@ loop-text-preserved c =
     record {
       same =
           c.loop-text.invariant.same
-          ∙ scan_step c.loop-text.rest.now text c.in-Some.others.now c.in-Some.ensures.parts c.args.form c.loop-text.lines before (view_reading c.in-Some-2.next)
-          (some_made c.args.form before text c.in_ok-next.field-0 c.in-Some-2.next c.in_ok-next.ensures c.in-Some-2.is);
+          ∙ scan_step c.loop-text.rest.now text c.in-Some.others.now c.in-Some.ensures.parts c.loop-text.lines before (view_reading c.in-Some-2.next)
+          (some_made before text c.in_ok-next.field-0 c.in-Some-2.next c.in_ok-next.ensures c.in-Some-2.is);
       few = omega (arith, c.in-Some.ensures.shorter);
     }

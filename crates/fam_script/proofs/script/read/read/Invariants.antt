@@ -6,7 +6,7 @@ use Rattle.fam_script.proofs.script.read.read.Given as goal
 
 abbrev pub invariant-loop-text : goal.invariant-loop-text
 invariant-loop-text l = record {
-  same : parse_of l.fn.form l.fn.bytes ≡ scan l.fn.form l.lines (view_reading l.reading) (whole_lines l.rest) (rest_of l.rest);
+  same : parse_of l.fn.bytes ≡ scan l.lines (view_reading l.reading) (whole_lines l.rest) (rest_of l.rest);
   few : l.lines + length l.rest ≤ length l.fn.bytes;
 }
 

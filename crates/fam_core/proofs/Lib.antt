@@ -1,0 +1,12 @@
+pub mod Turning
+pub mod Leading
+pub mod Hearing
+pub mod Lining
+pub mod Going
+pub mod Openings
+pub mod Choosing
+pub mod Listing
+pub mod Following
+pub mod Told
+pub mod Stepping
+pub mod Endings

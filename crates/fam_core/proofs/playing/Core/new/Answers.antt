@@ -1,0 +1,14 @@
+use Rattle.std.proofs.Common.{ap, sym, ◌∙◌, ◌*◌}
+use Rattle.fam_core.proofs.Openings.{lawful_users, lawful_groups, opens}
+use Rattle.fam_core.proofs.playing.Core.new.Goals as goal
+
+pub opened-requires-clause-users : goal.opened-requires-clause-users
+opened-requires-clause-users c = lawful_users c.args.script.now c.deref.result.now c.requires.script (c.deref.ensures.value ∙ c.in_ok-whos.ensures)
+
+pub opened-requires-clause-groups : goal.opened-requires-clause-groups
+opened-requires-clause-groups c = lawful_groups c.args.script.now c.deref.result.now c.requires.script (c.deref.ensures.value ∙ c.in_ok-whos.ensures)
+
+pub returns : goal.returns
+returns c =
+    opens c.args.rows c.args.script.now _ c.deref.result.now c.len.result _ c.requires.script (c.deref.ensures.value ∙ c.in_ok-whos.ensures)
+    (c.len.ensures ∙ sym c.deref.ensures.len) c.in_ok-machine.ensures c.in_ok-turns.ensures (ap (λ n. n * c.from-2.result) c.from.ensures ∙ ap (λ n. c.args.script.now.service.servers * n) c.from-2.ensures) c.in_ok-ready.ensures

@@ -1,0 +1,13 @@
+use Rattle.std.proofs.Common.{ℕ}
+use Rattle.fam_model.specs.declared.rows.Rows.{Rows}
+use Rattle.fam_model.specs.declared.script.Script.{Script}
+use Rattle.fam_core.specs.Playing.{IsRunning, StandsAfter}
+use Rattle.fam_core.proofs.simulation.play.Given as goal
+
+-- the run so far
+abbrev pub invariant-loop : goal.invariant-loop
+invariant-loop l =
+    record {
+      running : IsRunning l.history.items l.core l.words;
+      after : (rows : Rows) (script : Script) (seed : ℕ) → StandsAfter rows script seed l.fn.history.items l.fn.core l.fn.words → StandsAfter rows script seed l.history.items l.core l.words;
+    }

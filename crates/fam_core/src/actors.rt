@@ -1,0 +1,69 @@
+//! Who may act.
+
+ghost use Rattle.std.specs.Prelude.{◌≡◌, ◌≤◌, ◌++◌, filter, is_some, length, map, OnOk};
+ghost use Rattle.fam_model.specs.Lists.{numbers_below};
+ghost use Rattle.fam_schedule.specs.Schedule as schedule;
+ghost use Rattle.fam_turns.specs.Turns.{event_with};
+ghost use Rattle.ready_lists.specs.Lists.{busy_stripes};
+ghost use Rattle.fam_core.specs.Playing.{actor_of, acting, asked_by, may_go};
+
+use crate::playing::Core;
+use fam_base::NoMemory;
+use fam_turns::may_act;
+use ready_lists::ReadyLists;
+
+/// A program, or a stripe.
+#[derive(Clone, Copy, Drop)]
+pub enum Actor {
+    Program(u32),
+    Stripe(usize),
+}
+
+/// Whether the next event of a program may come.
+fn may_go(core: &Core, pe: u32) -> bool
+    ensures { result ≡ may_go core.now pe }
+{
+    let Some(program) = core.machine.program(pe) else {
+        return false;
+    };
+    match core.turns.get(pe as usize) {
+        Some(turn) => may_act(program, core.machine.round(), &turn.asked),
+        None => may_act(program, core.machine.round(), &None),
+    }
+}
+
+/// Lists the programs that may act, in order, behind what is listed.
+fn list_programs(core: &Core, actors: &mut Vec<Actor>) -> Result<(), NoMemory>
+    requires { length core.now.turns ≤ 64 }
+    ensures { OnOk result (map actor_of actors.new.items ≡
+        map actor_of actors.old.items ++ map schedule.Program (filter (may_go core.now) (numbers_below (length core.now.turns)))) }
+{
+    for pe in 0..core.turns.len() {
+        if may_go(core, pe as u32) {
+            actors.push(Actor::Program(pe as u32))?;
+        }
+    }
+    Ok(())
+}
+
+/// Lists the stripes with a piece that may come, in order, behind what is listed.
+fn list_stripes(ready: &ReadyLists, actors: &mut Vec<Actor>) -> Result<(), NoMemory>
+    ensures { OnOk result (map actor_of actors.new.items ≡ map actor_of actors.old.items ++ map schedule.Stripe (busy_stripes ready.now)) }
+{
+    for stripe in 0..ready.stripes() {
+        if ready.count(stripe) > 0 {
+            actors.push(Actor::Stripe(stripe))?;
+        }
+    }
+    Ok(())
+}
+
+/// Lists who may act in place of what is listed: the programs in order, and then the stripes in order.
+pub fn list_actors(core: &Core, actors: &mut Vec<Actor>) -> Result<(), NoMemory>
+    requires { length core.now.turns ≤ 64 }
+    ensures { OnOk result (map actor_of actors.new.items ≡ acting core.now) }
+{
+    actors.clear();
+    list_programs(core, actors)?;
+    list_stripes(&core.ready, actors)
+}

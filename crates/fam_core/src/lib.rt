@@ -1,0 +1,13 @@
+//! A script played on one thread: the machine, the programs on their way, and the order that a seed draws.
+#![tactic(auto)]
+
+mod actors;
+mod chosen;
+mod opening;
+mod playing;
+mod simulation;
+#[cfg(test)]
+mod tests;
+mod turn;
+
+pub use simulation::{Simulated, simulate};
