@@ -62,30 +62,30 @@ grouped false number shaped may = refl
 
 -- the turn of a first event
 
-ordinary : (p : ProgramState) (asked made : Call) → Some made ≡ Some asked → is_idle p.started ≡ true →
-    (is_running p.standing && is_next p p.next_call && is_idle p.started && is_shaped made) ≡ (is_running p.standing && (is_next p p.next_call && is_shaped asked))
-ordinary p asked made e i =
-    at_turn (is_running p.standing) (is_next p p.next_call) (is_idle p.started) (is_shaped made) i
-    ∙ ap (λ (o : Option Call). is_running p.standing && (is_next p p.next_call && is_some_and o is_shaped)) e
+ordinary : (p : ProgramState) (n : ℕ) (asked made : Call) → Some made ≡ Some asked → is_idle p.started ≡ true →
+    (is_running p.standing && is_next p n && is_idle p.started && is_shaped made) ≡ (is_running p.standing && (is_next p n && is_shaped asked))
+ordinary p n asked made e i =
+    at_turn (is_running p.standing) (is_next p n) (is_idle p.started) (is_shaped made) i
+    ∙ ap (λ (o : Option Call). is_running p.standing && (is_next p n && is_some_and o is_shaped)) e
 
-turn_is : (p : ProgramState) (asked : Call) (made : What) → call_made made ≡ Some asked → is_idle p.started ≡ true →
-    is_in_turn p p.next_call made ≡ (is_running p.standing && (is_next p p.next_call && is_shaped asked))
-turn_is p asked (what.Meta a given) e i = ordinary p asked (call.Meta a) e i
-turn_is p asked (what.Issue a given) e i = ordinary p asked a e i
-turn_is p asked (what.Piece j given) e i = cc
-turn_is p asked (what.Answer given) e i = cc
-turn_is p asked (what.OpenContext c) e i = ordinary p asked (call.OpenContext c) e i
-turn_is p asked (what.CloseContext c given) e i = ordinary p asked (call.CloseContext c) e i
-turn_is p asked (what.Fence c) e i = ordinary p asked (call.Fence c) e i
-turn_is p asked (what.Quiet c given) e i = ordinary p asked (call.Quiet c) e i
-turn_is p asked (what.Wait c named given) e i = ordinary p asked (call.CopyWait c named) e i
-turn_is p asked what.Arrive e i = ordinary p asked call.Barrier e i
-turn_is p asked what.Leave e i = ordinary p asked call.Leave e i
-turn_is p asked what.Crash e i =
-    crash_turn (is_running p.standing) (is_next p p.next_call)
-    ∙ ap (λ (o : Option Call). is_running p.standing && (is_next p p.next_call && is_some_and o is_shaped)) e
-turn_is p asked (what.Lose j) e i = cc
-turn_is p asked (what.Refused a error doubt) e i = ordinary p asked a e i
+pub turn_is : (p : ProgramState) (n : ℕ) (asked : Call) (made : What) → call_made made ≡ Some asked → is_idle p.started ≡ true →
+    is_in_turn p n made ≡ (is_running p.standing && (is_next p n && is_shaped asked))
+turn_is p n asked (what.Meta a given) e i = ordinary p n asked (call.Meta a) e i
+turn_is p n asked (what.Issue a given) e i = ordinary p n asked a e i
+turn_is p n asked (what.Piece j given) e i = cc
+turn_is p n asked (what.Answer given) e i = cc
+turn_is p n asked (what.OpenContext c) e i = ordinary p n asked (call.OpenContext c) e i
+turn_is p n asked (what.CloseContext c given) e i = ordinary p n asked (call.CloseContext c) e i
+turn_is p n asked (what.Fence c) e i = ordinary p n asked (call.Fence c) e i
+turn_is p n asked (what.Quiet c given) e i = ordinary p n asked (call.Quiet c) e i
+turn_is p n asked (what.Wait c named given) e i = ordinary p n asked (call.CopyWait c named) e i
+turn_is p n asked what.Arrive e i = ordinary p n asked call.Barrier e i
+turn_is p n asked what.Leave e i = ordinary p n asked call.Leave e i
+turn_is p n asked what.Crash e i =
+    crash_turn (is_running p.standing) (is_next p n)
+    ∙ ap (λ (o : Option Call). is_running p.standing && (is_next p n && is_some_and o is_shaped)) e
+turn_is p n asked (what.Lose j) e i = cc
+turn_is p n asked (what.Refused a error doubt) e i = ordinary p n asked a e i
 
 -- events
 
@@ -151,7 +151,7 @@ idle_acts state pe p (Some asked) there idle =
     ap (λ s. next_by state.service state.rows p s (Some asked)) idle
     ∙ ap (λ (o : Option What). o >>= λ w. Some (at_number w)) first.1
     in
-    let turn = turn_is p asked first.0 (first_makes state.service state.rows p asked first.0 first.1).0 (ap is_idle idle) in
+    let turn = turn_is p p.next_call asked first.0 (first_makes state.service state.rows p asked first.0 first.1).0 (ap is_idle idle) in
     sym (event_comes state pe p (Some asked) next there is
     ∙ ap (λ b. b && is_some (effect service_limits state pe p p.next_call first.0)) turn
     ∙ ap (λ b. (is_running p.standing && (is_next p p.next_call && is_shaped asked)) && b) first.2

@@ -1,0 +1,5 @@
+pub mod Shapes
+pub mod Blocked
+pub mod Pieces
+pub mod Enabled
+pub mod Course

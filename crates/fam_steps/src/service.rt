@@ -1,0 +1,148 @@
+//! The service on one thread.
+
+ghost use Rattle.std.specs.Option.{option_copied};
+ghost use Rattle.std.specs.Prelude.{◌≡◌, ◌<◌, ◌≤◌, ◌∷◌, ◌++◌, [], All, List, Some, length, is_some, true, IfOk, IsTrue, OnErr, OnOk};
+ghost use Rattle.fam_model.specs.Limits.{nobody, service_limits};
+ghost use Rattle.fam_model.specs.Opened.{opened};
+ghost use Rattle.fam_model.specs.Rows.{IsLawful};
+ghost use Rattle.fam_model.specs.Services.{is_service};
+ghost use Rattle.fam_model.specs.Step as machine;
+ghost use Rattle.fam_model.specs.declared.event.Event.{Event};
+ghost use Rattle.fam_steps.specs.Steps as steps;
+
+use crate::copying::copy_event;
+use crate::due::{due_event, next_event};
+use crate::step::{CoreFault, Step};
+use fam_base::{NoMemory, PeId, Who};
+use fam_machine::{Machine, StepError};
+use fam_model::{Call, Event, Rows, Service};
+use std::alloc::Global;
+use std::marker::Model;
+
+/// The service on one thread: the memory machine, and the events that it has made.
+#[derive(Drop)]
+pub struct Core {
+    alloc: Global,
+    machine: Machine,
+    history: Vec<Event>,
+}
+
+impl Model for Core {
+    ghost use Rattle.fam_steps.specs.Steps.{Course};
+
+    ghost Value = { Course };
+
+    ghost view = { λ core. record { history = core.history.items; state = core.machine } };
+}
+
+impl Core {
+    /// The service before its first event: these rows in the directory, zero bytes, and a program for each user. All
+    /// programs are members of the barrier.
+    pub fn new(alloc: Global, service: Service, whos: &[Who], rows: Rows) -> Result<Core, NoMemory>
+        requires service { IsTrue (is_service service.servers service.stripes service.unit) }
+        requires few { length whos.now ≤ 64 }
+        requires users { All (λ w. w.uid < nobody) whos.now }
+        requires groups { All (λ w. w.gid < nobody) whos.now }
+        requires lawful { IsLawful rows }
+        ensures { IfOk result (λ core. core ≡ steps.begun_in (opened rows service whos.now (length whos.now))) }
+    {
+        let machine = Machine::opened(alloc, rows, service, whos, whos.len() as u32)?;
+        Ok(Core {
+            alloc,
+            machine,
+            history: Vec::new(alloc),
+        })
+    }
+
+    /// Makes the event that a step is for, and hands it out. `NotEnabled` exactly where no event of that shape may come. After
+    /// a fault the service is as it was.
+    pub fn apply(&mut self, wanted: &Step) -> Result<Event, CoreFault>
+        ensures applies { steps.Applies self.old wanted.now self.new result }
+        ensures legal { steps.GoesOn self.old self.new }
+    {
+        let Some(event) = self.due(wanted)? else {
+            return Err(CoreFault::NotEnabled);
+        };
+        let told = copy_event(&event)?;
+        self.make(event)?;
+        Ok(told)
+    }
+
+    /// Makes the event that a step is for: it is then the last one of the history. Else as `apply`.
+    pub fn advance(&mut self, wanted: &Step) -> Result<(), CoreFault>
+        ensures goes { steps.Advances self.old wanted.now self.new result }
+        ensures legal { steps.GoesOn self.old self.new }
+    {
+        let Some(event) = self.due(wanted)? else {
+            return Err(CoreFault::NotEnabled);
+        };
+        self.make(event)?;
+        Ok(())
+    }
+
+    /// Makes the next event of a program whose next call is this one: the answer of what it has started, or else the first
+    /// event of the call. It is then the last one of the history.
+    pub fn go_on(&mut self, pe: PeId, wanted: &Option<Call>) -> Result<(), CoreFault>
+        ensures takes { steps.TakesTurn self.old pe.0 wanted.now self.new result }
+        ensures legal { steps.GoesOn self.old self.new }
+    {
+        let Some(event) = next_event(self.alloc, &self.machine, pe, wanted)? else {
+            return Err(CoreFault::NotEnabled);
+        };
+        self.make(event)?;
+        Ok(())
+    }
+
+    /// The memory machine as it stands.
+    pub fn machine(&self) -> &Machine
+        ensures { result.now ≡ self.now.state }
+    {
+        &self.machine
+    }
+
+    /// The events so far.
+    pub fn history(&self) -> &[Event]
+        ensures { result.now ≡ self.now.history }
+    {
+        self.history.as_slice()
+    }
+
+    /// The last event, if there is one.
+    pub fn last(&self) -> Option<&Event>
+        ensures { (before : List Event) (event : Event) → self.now.history ≡ before ++ event ∷ [] → option_copied result ≡ Some event }
+    {
+        self.history.as_slice().last()
+    }
+
+    /// The events so far; the rest is dropped.
+    pub fn into_history(self) -> Vec<Event>
+        ensures { result.items ≡ self.history }
+    {
+        self.history
+    }
+
+    /// The event that a step is for.
+    fn due(&self, wanted: &Step) -> Result<Option<Event>, NoMemory>
+        ensures { IfOk result (λ event. steps.IsFound self.now.state wanted.now event) }
+    {
+        due_event(self.alloc, &self.machine, wanted)
+    }
+
+    /// Makes an event that may come.
+    fn make(&mut self, event: Event) -> Result<(), NoMemory>
+        requires { is_some (machine.step service_limits self.old.state event) ≡ true }
+        ensures made { OnOk result (steps.Makes self.old event self.new) }
+        ensures failed { OnErr result (self.new ≡ self.old) }
+    {
+        let Ok(()) = self.history.reserve(1) else {
+            return Err(NoMemory);
+        };
+        match self.machine.step(&event) {
+            Ok(()) => {}
+            Err(StepError::Memory) => return Err(NoMemory),
+            Err(StepError::Illegal(_)) => unreachable!(),
+        }
+        self.history.push_reserved(event);
+        Ok(())
+    }
+}
