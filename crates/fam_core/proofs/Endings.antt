@@ -1,6 +1,6 @@
 -- A run that was played, and its lines.
 use Rattle.std.proofs.Common.{◌≡◌, ℕ, ◌<◌, true, false, List, [], length, refl, sym, ap, ◌∙◌, subst, arith}
-use Rattle.std.specs.Prelude.{None}
+use Rattle.std.specs.Prelude.{Ok, None, Some}
 use Rattle.std.specs.List.{enumerate_from, filter_map, flat_map}
 use Rattle.std.proofs.lemmas.Bool.{false≢true}
 use Rattle.std.proofs.lemmas.Option.{slice_get_within}
@@ -12,44 +12,80 @@ use Rattle.fam_model.specs.History.{calls}
 use Rattle.fam_model.specs.Lists.{numbers_below}
 use Rattle.fam_model.specs.ReportText.{numbered, reply_lines}
 use Rattle.fam_schedule.specs.Schedule.{IsScheduled, new_run, next_step, words_of}
-use Rattle.fam_core.specs.declared.playing.Core.{Core}
-use Rattle.fam_core.specs.Playing.{Advances, IsPlayed, IsOpened, StandsAfter, run_of}
+use Rattle.fam_core.specs.declared.playing.Player.{Player}
+use Rattle.fam_model.specs.Headline.{opening}
+use Rattle.fam_model.specs.History.{state_after}
+use Rattle.fam_model.specs.Limits.{service_limits}
+use Rattle.fam_schedule.proofs.Whole.{leads_ends, tells_new}
+use Rattle.std.specs.Global.{Global}
+use Rattle.std.specs.Prelude.{Vec}
+use Rattle.fam_model.specs.declared.report.ReplyLine.{ReplyLine}
+use Rattle.fam_steps.specs.Steps.{Course}
+use Rattle.fam_core.specs.declared.simulation.Played.{Played}
+use Rattle.fam_core.specs.Playing.{Advances, IsPlayed, IsPlayedOut, IsOpened, StandsAfter, run_of}
 use Rattle.fam_core.proofs.Going.{element_at}
 use Rattle.fam_core.proofs.Lining.{lined, told_lines}
 
 -- before its first event
-pub begins : (rows : Rows) (script : Script) (seed : ℕ) (core : Core) (words : Lcg) → IsOpened rows script core → words ≡ words_of seed → StandsAfter rows script seed [] core words
-begins rows script seed core words opened same =
-    record { leads = ap (λ state. record { before = []; now = state; words = words }) opened.machine ∙ ap (λ w. record (new_run rows script seed) { words = w }) same; stands = opened.stands }
+pub begins : (rows : Rows) (script : Script) (seed : ℕ) (player : Player) (words : Lcg) → IsOpened rows script player → words ≡ words_of seed →
+    StandsAfter rows script seed player.service.history player words
+begins rows script seed player words opened same =
+    subst (λ history. StandsAfter rows script seed history player words) (sym opened.stands.made)
+    (record { leads = ap (λ state. record { before = []; now = state; words = words }) opened.machine ∙ ap (λ w. record (new_run rows script seed) { words = w }) same; stands = opened.stands })
 
 pub nothing_yet : (rows : Rows) (script : Script) (seed : ℕ) → IsScheduled rows script seed [] false
 nothing_yet rows script seed = record { end = new_run rows script seed; leads = refl; stops = λ e. absurd (false≢true e) }
 
 -- the run so far
-pub so_far : (rows : Rows) (script : Script) (seed : ℕ) (history : List Event) (core : Core) (words : Lcg) → StandsAfter rows script seed history core words → IsScheduled rows script seed history false
-so_far rows script seed history core words s = record { end = run_of core history words; leads = s.leads; stops = λ e. absurd (false≢true e) }
+pub so_far : (rows : Rows) (script : Script) (seed : ℕ) (history : List Event) (player : Player) (words : Lcg) → StandsAfter rows script seed history player words → IsScheduled rows script seed history false
+so_far rows script seed history player words s = record { end = run_of player history words; leads = s.leads; stops = λ e. absurd (false≢true e) }
 
 -- the whole run
-pub whole : (rows : Rows) (script : Script) (seed : ℕ) (history : List Event) (core : Core) (words : Lcg) → StandsAfter rows script seed history core words →
-    next_step script (run_of core history words) ≡ None → IsScheduled rows script seed history true
-whole rows script seed history core words s none = record { end = run_of core history words; leads = s.leads; stops = λ e. none }
+pub whole : (rows : Rows) (script : Script) (seed : ℕ) (history : List Event) (player : Player) (words : Lcg) → StandsAfter rows script seed history player words →
+    next_step script (run_of player history words) ≡ None → IsScheduled rows script seed history true
+whole rows script seed history player words s none = record { end = run_of player history words; leads = s.leads; stops = λ e. none }
+
+-- the state behind it
+pub behind : (rows : Rows) (script : Script) (seed : ℕ) (history : List Event) (player : Player) (words : Lcg) → StandsAfter rows script seed history player words →
+    state_after service_limits (opening rows script) history ≡ Some player.service.state
+behind rows script seed history player words s = (leads_ends script (new_run rows script seed) history (run_of player history words) (tells_new rows script seed) s.leads).reached
 
 -- its lines
-pub all_told : (rows : Rows) (script : Script) (seed : ℕ) (history : List Event) (core : Core) (words : Lcg) → StandsAfter rows script seed history core words →
-    flat_map (λ turn. turn.lines.items) core.turns ≡ reply_lines (length script.programs) history
-all_told rows script seed history core words s =
+pub all_told : (rows : Rows) (script : Script) (seed : ℕ) (history : List Event) (player : Player) (words : Lcg) → StandsAfter rows script seed history player words →
+    flat_map (λ turn. turn.lines.items) player.turns ≡ reply_lines (length script.programs) history
+all_told rows script seed history player words s =
     let stands = s.stands in
     let count = stands.count in
-    lined (λ pe. filter_map (numbered pe) (enumerate_from 0 (calls history pe))) core.turns
+    lined (λ pe. filter_map (numbered pe) (enumerate_from 0 (calls history pe))) player.turns
     (λ pe turn at.
-    let low : pe < length core.turns = slice_get_within core.turns pe turn at in
+    let low : pe < length player.turns = slice_get_within player.turns pe turn at in
     let text = element_at script.programs pe (omega (arith, low, count)) in
     let one = stands.tells words pe text.0 text.1 in
     (stands.turns pe turn text.0 at text.1).lines_are ∙ sym (told_lines text.0 pe one.p.next_call one.p.started history one.tells))
     ∙ ap (λ n. flat_map (λ pe. filter_map (numbered pe) (enumerate_from 0 (calls history pe))) (numbers_below n)) count
 
 -- nobody may act any more
-pub played_out : (rows : Rows) (script : Script) (seed : ℕ) (history : List Event) (old new : Core) (words later : Lcg) → StandsAfter rows script seed history old words →
-    Advances old words new later None → IsPlayed rows script seed history new true
-played_out rows script seed history old new words later s (same, none) =
-    subst (λ core. IsPlayed rows script seed history core true) (sym same) (words, s, none script history s.stands)
+pub played_out : (rows : Rows) (script : Script) (seed : ℕ) (old new : Player) (words later : Lcg) → StandsAfter rows script seed old.service.history old words →
+    Advances old words new later (Ok false) → IsPlayed rows script seed new true
+played_out rows script seed old new words later s (same, none) =
+    subst (λ player. IsPlayed rows script seed player true) (sym same) (words, s, none script old.service.history s.stands)
+
+-- what is handed out of a run so far
+pub out_so_far : (rows : Rows) (script : Script) (seed : ℕ) (player : Player) (played : Played) → played.service ≡ player.service → played.whole ≡ false →
+    IsScheduled rows script seed player.service.history false → IsPlayedOut rows script seed played
+out_so_far rows script seed player played same part s =
+    record {
+      scheduled = subst (λ w. IsScheduled rows script seed played.service.history w) (sym part) (subst (λ (course : Course). IsScheduled rows script seed course.history false) (sym same) s);
+      state = λ e. absurd (false≢true (sym part ∙ e));
+      replies = λ e. absurd (false≢true (sym part ∙ e));
+    }
+
+-- and of a whole one
+pub out_whole : (rows : Rows) (script : Script) (seed : ℕ) (player : Player) (replies : Vec ReplyLine Global) → replies.items ≡ flat_map (λ turn. turn.lines.items) player.turns →
+    IsPlayed rows script seed player true → IsPlayedOut rows script seed (record { service = player.service; replies = replies; whole = true })
+out_whole rows script seed player replies lines (words, s, none) =
+    record {
+      scheduled = whole rows script seed player.service.history player words s none;
+      state = λ e. behind rows script seed player.service.history player words s;
+      replies = λ e. lines ∙ all_told rows script seed player.service.history player words s;
+    }

@@ -1,6 +1,6 @@
 -- A run goes on.
-use Rattle.std.proofs.Common.{◌≡◌, ℕ, ◌+◌, ◌<◌, ◌≤◌, Bool, List, [], ◌∷◌, ◌++◌, length, map, refl, sym, ap, ◌∙◌, subst, arith, append-nil, suc, zero}
-use Rattle.std.specs.Prelude.{Option, Some, None, filter, slice_get, is_some, if◌then◌else◌}
+use Rattle.std.proofs.Common.{◌≡◌, ℕ, ◌+◌, ◌<◌, ◌≤◌, Bool, true, false, List, [], ◌∷◌, ◌++◌, length, map, refl, sym, ap, ◌∙◌, subst, arith, append-nil, suc, zero, inl, inr}
+use Rattle.std.specs.Prelude.{Result, Ok, Err, Option, Some, None, filter, slice_get, is_some, if◌then◌else◌}
 use Rattle.std.specs.List.{range_with_len}
 use Rattle.std.specs.Option.{option_map, option_to_list}
 use Rattle.std.proofs.lemmas.List.{length-map, length-set}
@@ -26,13 +26,22 @@ use Rattle.fam_schedule.proofs.Runs.{TellsAll, tells_next}
 use Rattle.fam_turns.specs.Turns.{event_with}
 use Rattle.fam_turns.proofs.Scheduled.{is_scheduled}
 use Rattle.ready_lists.specs.Lists.{busy_stripes, names_at}
-use Rattle.fam_core.specs.declared.playing.Core.{Core}
+use Rattle.fam_core.specs.declared.playing.Player.{Player}
 use Rattle.fam_core.specs.declared.turn.Turn.{Turn}
 use Rattle.fam_model.specs.declared.rows.Rows.{Rows}
-use Rattle.fam_core.specs.Playing.{Advances, Chooses, IsRunning, IsStanding, Makes, Stands, StandsAfter, acting, asked_by, may_go, run_of}
+use Rattle.fam_schedule.specs.Schedule.{with_words}
+use Rattle.fam_core.specs.declared.chosen.Chosen.{Chosen}
+use Rattle.fam_core.specs.declared.chosen.Chosen.TheVariants as chosen
+use Rattle.fam_base.specs.declared.error.NoMemory.{NoMemory}
+use Rattle.std.proofs.lemmas.Bool.{false≢true}
+use Rattle.fam_model.specs.Step.{step}
+use Rattle.fam_steps.specs.Steps.{Course}
+use Rattle.fam_schedule.specs.Schedule.{IsScheduled, LeadsTo, went_on}
+use Rattle.fam_core.specs.Playing.{Advances, Chooses, ComesNot, IsMade, IsNext, IsRunning, IsStanding, Makes, Stands, StandsAfter, acting, asked_by, chosen_event, may_go, run_of}
 use Rattle.fam_core.specs.Turns.{Heard, IsTurn, told_to}
 use Rattle.fam_core.proofs.Hearing.{hears}
 use Rattle.fam_core.proofs.Leading.{the_step, leads_more}
+use Rattle.fam_core.proofs.Stepping.{not_enabled}
 
 -- lists of numbers
 
@@ -86,33 +95,33 @@ element_at (x ∷ xs) k low = (_, slice_get-get_or (x ∷ xs) k x low)
 bind_to : {A B : Type 0} (o : Option A) (x : A) (f : A → Option B) → o ≡ Some x → (o >>= f) ≡ f x
 bind_to o x f e = rw e refl
 
-asked_at : (script : Script) (history : List Event) (core : Core) (pe : ℕ) → Stands script history core → pe < length script.programs →
-    asked_by core.turns pe ≡ due_in script history pe
-asked_at script history core pe s low =
+asked_at : (script : Script) (history : List Event) (player : Player) (pe : ℕ) → Stands script history player → pe < length script.programs →
+    asked_by player.turns pe ≡ due_in script history pe
+asked_at script history player pe s low =
     let count = s.count in
     let text = element_at script.programs pe low in
-    let turn = element_at core.turns pe (omega (arith, count)) in
+    let turn = element_at player.turns pe (omega (arith, count)) in
     let is = s.turns pe turn.0 text.0 turn.1 text.1 in
-    bind_to (slice_get core.turns pe) turn.0 (λ t. t.asked) turn.1
+    bind_to (slice_get player.turns pe) turn.0 (λ t. t.asked) turn.1
     ∙ is.due
     ∙ sym (bind_to (slice_get script.programs pe) text.0 (λ program. next_call program (replies_to history pe)) text.1)
 
-pub may_go_same : (script : Script) (history : List Event) (core : Core) (words : Lcg) (pe : ℕ) → Stands script history core → pe < length script.programs →
-    event_with core.machine pe (asked_by core.turns pe) ≡ program_event script (run_of core history words) pe
-may_go_same script history core words pe s low =
-    ap (event_with core.machine pe) (asked_at script history core pe s low) ∙ sym (is_scheduled script (run_of core history words) pe)
+pub may_go_same : (script : Script) (history : List Event) (player : Player) (words : Lcg) (pe : ℕ) → Stands script history player → pe < length script.programs →
+    event_with player.service.state pe (asked_by player.turns pe) ≡ program_event script (run_of player history words) pe
+may_go_same script history player words pe s low =
+    ap (event_with player.service.state pe) (asked_at script history player pe s low) ∙ sym (is_scheduled script (run_of player history words) pe)
 
-pub acting_same : (script : Script) (history : List Event) (core : Core) (words : Lcg) → Stands script history core → acting core ≡ actors script (run_of core history words)
-acting_same script history core words s =
-    let run = run_of core history words in
-    let n = length core.turns in
-    let programs : filter (may_go core) (numbers_below n) ≡ filter (λ pe. is_some (program_event script run pe)) (numbers_below (length core.machine.programs)) =
-    filter_below (may_go core) (λ pe. is_some (program_event script run pe)) n
-    (λ pe low. let count = s.count in ap is_some (may_go_same script history core words pe s (omega (arith, count))))
+pub acting_same : (script : Script) (history : List Event) (player : Player) (words : Lcg) → Stands script history player → acting player ≡ actors script (run_of player history words)
+acting_same script history player words s =
+    let run = run_of player history words in
+    let n = length player.turns in
+    let programs : filter (may_go player) (numbers_below n) ≡ filter (λ pe. is_some (program_event script run pe)) (numbers_below (length player.service.state.programs)) =
+    filter_below (may_go player) (λ pe. is_some (program_event script run pe)) n
+    (λ pe low. let count = s.count in ap is_some (may_go_same script history player words pe s (omega (arith, count))))
     ∙ ap (λ k. filter (λ pe. is_some (program_event script run pe)) (numbers_below k)) (s.count ∙ sym s.programs) in
-    ap (λ xs. map Program xs ++ map Stripe (busy_stripes core.ready)) programs
-    ∙ ap (λ xs. map Program (filter (λ pe. is_some (program_event script run pe)) (numbers_below (length core.machine.programs))) ++ map Stripe xs)
-    (busy_same core.machine core.ready s.ready)
+    ap (λ xs. map Program xs ++ map Stripe (busy_stripes player.ready)) programs
+    ∙ ap (λ xs. map Program (filter (λ pe. is_some (program_event script run pe)) (numbers_below (length player.service.state.programs))) ++ map Stripe xs)
+    (busy_same player.service.state player.ready s.ready)
 
 -- the next event
 
@@ -129,46 +138,84 @@ heard_turn text pe None replies later old new is same e = subst (λ rs. IsTurn t
 heard_turn text pe (Some given) replies later old new is goes e = subst (λ rs. IsTurn text pe rs new) (sym e) (goes text replies is)
 
 -- the state after the next event
-pub stands_next : (script : Script) (history : List Event) (old new : Core) (words later : Lcg) (event : Event) → Stands script history old →
+pub stands_next : (script : Script) (history : List Event) (old new : Player) (words later : Lcg) (event : Event) → Stands script history old →
     next_step script (run_of old history words) ≡ Some (the_step event later) → Makes old event new → Stands script (history ++ event ∷ []) new
 stands_next script history old new words later event s chosen makes =
     let run = run_of old history words in
-    let moves = step_moves service_limits old.machine new.machine event makes.steps in
+    let moves = step_moves service_limits old.service.state new.service.state event makes.makes.steps in
     let comes : Comes script run event = comes_next script run (the_step event later) chosen in
     let count = makes.hears.count in
     let few = s.few in
     record {
       few = omega (arith, few, count);
-      programs = ap length moves.programs ∙ length-set old.machine.programs event.pe.0 moves.is ∙ s.programs;
+      programs = ap length moves.programs ∙ length-set old.service.state.programs event.pe.0 moves.is ∙ s.programs;
       count = count ∙ s.count;
       turns = λ pe turn text at there.
           let low : pe < length new.turns = slice_get_within new.turns pe turn at in
           let was = element_at old.turns pe (omega (arith, count, low)) in
           heard_turn text pe (told_to pe event) (replies_to history pe) (replies_to (history ++ event ∷ []) pe) was.0 turn (s.turns pe was.0 text was.1 there)
           (makes.hears.each pe was.0 turn was.1 at) (hears script run text pe event there (s.tells words) comes);
-      ready = makes.follows old.machine s.ready s.tidy makes.steps;
-      tells = λ others. tells_with script (history ++ event ∷ []) new.machine later others (tells_next script run event new.machine later (s.tells words) comes makes.steps);
-      tidy = step_tidy service_limits old.machine new.machine event makes.steps s.tidy;
+      ready = makes.follows old.service.state s.ready s.tidy makes.makes.steps;
+      tells = λ others. tells_with script (history ++ event ∷ []) new.service.state later others (tells_next script run event new.service.state later (s.tells words) comes makes.makes.steps);
+      tidy = step_tidy service_limits old.service.state new.service.state event makes.makes.steps s.tidy;
+      made = makes.makes.kept ∙ ap (λ history. history ++ event ∷ []) s.made;
     }
 
-pub advances : (old new : Core) (words later : Lcg) (event : Event) → Chooses old words later (Some event) → Makes old event new → Advances old words new later (Some event)
-advances old new words later event chooses makes script history s =
-    (chooses script history s, makes.steps, stands_next script history old new words later event s (chooses script history s) makes)
+-- the event of what was chosen comes next
+chosen_next : (old : Player) (words later : Lcg) (choice : Chosen) (event : Event) (next : State) → Chooses old words later (Some choice) → chosen_event old choice ≡ Some event →
+    step service_limits old.service.state event ≡ Some next → IsNext old words event later next
+chosen_next old words later choice event next chooses is steps script history s = (chooses script history s ∙ ap (with_words later) is, steps)
+
+pub advances : (old new : Player) (words later : Lcg) (choice : Chosen) (made : Result Bool NoMemory) → Chooses old words later (Some choice) → IsMade old choice new made → Advances old words new later made
+advances old new words later choice (Ok true) chooses (event, is, makes) =
+    let next = chosen_next old words later choice event new.service.state chooses is makes.makes.steps in
+    (event, next, λ script history s. stands_next script history old new words later event s (next script history s).0 makes)
+advances old new words later choice (Ok false) chooses (not, same) = (same, λ script history s. comes_not choice not script history (chooses script history s))
+  where
+    comes_not : (choice : Chosen) → ComesNot old choice → (script : Script) (history : List Event) → next_step script (run_of old history words) ≡ with_words later (chosen_event old choice) →
+        next_step script (run_of old history words) ≡ None
+    comes_not (chosen.Turn pe) none script history next = next ∙ ap (with_words later) none
+    comes_not (chosen.Move asked) not script history next = not_enabled script (run_of old history words) asked later next not
+advances old new words later choice (Err e) chooses (inl same) = inl (ap (λ (c : Course). c.history) same)
+advances old new words later choice (Err e) chooses (inr (event, is, makes)) =
+    inr (event, chosen_next old words later choice event new.service.state chooses is makes.steps, makes.kept)
+
+-- nothing was chosen
+pub nobody_acts : (player : Player) (words later : Lcg) → Chooses player words later None → Advances player words player later (Ok false)
+nobody_acts player words later chooses = (refl, λ script history s. chooses script history s)
 
 -- a run that goes on by the next event
-pub goes_on : (rows : Rows) (script : Script) (seed : ℕ) (history : List Event) (old new : Core) (words later : Lcg) (event : Event) → StandsAfter rows script seed history old words →
-    Advances old words new later (Some event) → StandsAfter rows script seed (history ++ event ∷ []) new later
-goes_on rows script seed history old new words later event s advances =
-    let a = advances script history s.stands in
+pub goes_on : (rows : Rows) (script : Script) (seed : ℕ) (old new : Player) (words later : Lcg) → StandsAfter rows script seed old.service.history old words →
+    Advances old words new later (Ok true) → StandsAfter rows script seed new.service.history new later
+goes_on rows script seed old new words later s (event, next, stands) =
+    let history = old.service.history in
+    let a = next script history s.stands in
+    let stood = stands script history s.stands in
+    subst (λ h. StandsAfter rows script seed h new later) (sym stood.made)
+    (record {
+      leads = leads_more script (new_run rows script seed) (run_of old history words) history event later new.service.state s.leads a.0 a.1;
+      stands = stood;
+    })
+
+-- a run that stops short
+pub stops_short : (rows : Rows) (script : Script) (seed : ℕ) (old new : Player) (words later : Lcg) (error : NoMemory) → StandsAfter rows script seed old.service.history old words →
+    Advances old words new later (Err error) → IsScheduled rows script seed new.service.history false
+stops_short rows script seed old new words later error s (inl same) =
+    record { end = run_of old old.service.history words; leads = subst (λ h. LeadsTo script (new_run rows script seed) h (run_of old old.service.history words)) (sym same) s.leads; stops = λ e. absurd (false≢true e) }
+stops_short rows script seed old new words later error s (inr (event, next, kept)) =
+    let history = old.service.history in
+    let a = next script history s.stands in
+    let end = went_on (run_of old history words) event new.service.state later in
     record {
-      leads = leads_more script (new_run rows script seed) (run_of old history words) history event later new.machine s.leads a.0 a.1;
-      stands = a.2;
+      end = end;
+      leads = subst (λ h. LeadsTo script (new_run rows script seed) h end) (sym kept)
+          (leads_more script (new_run rows script seed) (run_of old history words) history event later new.service.state s.leads a.0 a.1);
+      stops = λ e. absurd (false≢true e);
     }
 
 -- a run that stands somewhere
-pub running_on : (history : List Event) (old new : Core) (words later : Lcg) (event : Event) → IsRunning history old words → Advances old words new later (Some event) →
-    IsRunning (history ++ event ∷ []) new later
-running_on history old new words later event (rows, script, seed, s) advances = (rows, script, seed, goes_on rows script seed history old new words later event s advances)
+pub running_on : (old new : Player) (words later : Lcg) → IsRunning old words → Advances old words new later (Ok true) → IsRunning new later
+running_on old new words later (rows, script, seed, s) advances = (rows, script, seed, goes_on rows script seed old new words later s advances)
 
-pub standing : (history : List Event) (core : Core) (words : Lcg) → IsRunning history core words → IsStanding core
-standing history core words (rows, script, seed, s) = (script, history, s.stands)
+pub standing : (player : Player) (words : Lcg) → IsRunning player words → IsStanding player
+standing player words (rows, script, seed, s) = (script, player.service.history, s.stands)

@@ -26,7 +26,7 @@ use Rattle.fam_ready.proofs.States.{opening_tidy}
 use Rattle.fam_schedule.specs.Schedule.{new_run}
 use Rattle.fam_schedule.proofs.Issued.{get_last}
 use Rattle.fam_schedule.proofs.Whole.{tells_new}
-use Rattle.fam_core.specs.declared.playing.Core.{Core}
+use Rattle.fam_core.specs.declared.playing.Player.{Player}
 use Rattle.fam_core.specs.declared.turn.Turn.{Turn}
 use Rattle.fam_core.specs.Turns.{StartsAs}
 use Rattle.fam_core.specs.Playing.{IsOpened, StartAs, StartSoFar}
@@ -39,9 +39,9 @@ opened_count rows script =
     length-map (enumerate_from 0 whos) (λ entry. new_program entry.1 (nat_lt entry.0 (length script.programs))) ∙ length-enumerate_from 0 whos
     ∙ length-map script.programs (λ program. program.who)
 
-pub stands_new : (rows : Rows) (script : Script) (core : Core) → length script.programs ≤ 64 → core.machine ≡ opening rows script → StartAs script.programs core.turns →
-    AreReady (opening rows script) core.ready → IsOpened rows script core
-stands_new rows script core few same start ready =
+pub stands_new : (rows : Rows) (script : Script) (player : Player) → length script.programs ≤ 64 → player.service.state ≡ opening rows script → player.service.history ≡ [] → StartAs script.programs player.turns →
+    AreReady (opening rows script) player.ready → IsOpened rows script player
+stands_new rows script player few same nothing start ready =
     let count = start.count in
     record {
       machine = same;
@@ -50,10 +50,11 @@ stands_new rows script core few same start ready =
         programs = ap (λ state. length state.programs) same ∙ opened_count rows script;
         count = count;
         turns = λ pe turn text at there. start.each pe turn at text there;
-        ready = subst (λ state. AreReady state core.ready) (sym same) ready;
+        ready = subst (λ state. AreReady state player.ready) (sym same) ready;
         tells = λ words. subst (λ state. TellsAll script (record { before = []; now = state; words = words })) (sym same)
             (tells_with script [] (opening rows script) (new_run rows script 0).words words (tells_new rows script 0));
         tidy = subst IsTidy (sym same) (opening_tidy rows script);
+        made = nothing;
       };
     }
 
@@ -122,13 +123,13 @@ lawful_groups script whos lawful same =
     (All-weaker (λ (text : Text). (text.who.uid < nobody) × (text.who.gid < nobody)) (λ (text : Text). text.who.gid < nobody) (λ text both. both.1) script.programs (lawful_whos script lawful)))
 
 -- the machine as it is opened
-pub opens : (rows : Rows) (script : Script) (core : Core) (whos : List Who) (local stripes : ℕ) → IsLawfulScript script → whos ≡ map (λ program. program.who) script.programs →
-    local ≡ length whos → core.machine ≡ opened rows script.service whos local → StartAs script.programs core.turns → stripes ≡ stripe_count script.service →
-    core.ready ≡ replicate stripes [] → IsOpened rows script core
-opens rows script core whos local stripes lawful users count machine start stripes_are ready =
+pub opens : (rows : Rows) (script : Script) (player : Player) (whos : List Who) (local stripes : ℕ) → IsLawfulScript script → whos ≡ map (λ program. program.who) script.programs →
+    local ≡ length whos → player.service.state ≡ opened rows script.service whos local → player.service.history ≡ [] → StartAs script.programs player.turns → stripes ≡ stripe_count script.service →
+    player.ready ≡ replicate stripes [] → IsOpened rows script player
+opens rows script player whos local stripes lawful users count machine nothing start stripes_are ready =
     let longer : length whos ≡ length script.programs = ap length users ∙ length-map script.programs (λ program. program.who) in
-    let at_opening : core.machine ≡ opening rows script =
+    let at_opening : player.service.state ≡ opening rows script =
     machine ∙ ap (λ ws. opened rows script.service ws local) users
     ∙ ap (opened rows script.service (map (λ program. program.who) script.programs)) (count ∙ longer) in
-    stands_new rows script core lawful.but_count.programs at_opening start
+    stands_new rows script player lawful.but_count.programs at_opening nothing start
     (subst (AreReady (opening rows script)) (sym (ready ∙ ap (λ n. replicate n []) stripes_are)) (opened_empty rows script))

@@ -1,35 +1,21 @@
 -- The event that comes next has a step.
-use Rattle.std.proofs.Common.{◌≡◌, ℕ, Bool, true, false, List, refl, sym, ap, ◌∙◌, subst}
+use Rattle.std.proofs.Common.{◌≡◌, ℕ, Bool, true, false, refl, sym, ap, ◌∙◌, subst}
 use Rattle.std.specs.Prelude.{◌&&◌, ◌==◌, ◌%◌, Option, Some, None, is_some, length, nat_lt, slice_get, if◌then◌else◌}
 use Rattle.std.specs.Option.{option_map}
 use Rattle.rand_pcg.specs.Lcg.{Lcg}
 use Rattle.rand_pcg.specs.Pcg.{pcg32}
-use Rattle.fam_base.specs.declared.error.FamError.TheVariants as error
-use Rattle.fam_base.specs.declared.naming.Who.{Who}
-use Rattle.fam_model.specs.contracts.reply.PieceAnswerEq.TheImpl.Laws as answer_laws
 use Rattle.fam_model.specs.declared.event.Event.{Event}
 use Rattle.fam_model.specs.declared.event.What.TheVariants as what
 use Rattle.fam_model.specs.declared.piece.MarkedPiece.{MarkedPiece}
-use Rattle.fam_model.specs.declared.piece.PlanKind.{PlanKind}
-use Rattle.fam_model.specs.declared.piece.PlanKind.TheVariants as plan
-use Rattle.fam_model.specs.declared.piece.PlanPiece.{PlanPiece}
-use Rattle.fam_model.specs.declared.reply.PieceAnswer.{PieceAnswer}
-use Rattle.fam_model.specs.declared.reply.PieceAnswer.TheVariants as given
-use Rattle.fam_model.specs.declared.rows.ItemRow.{ItemRow}
-use Rattle.fam_model.specs.declared.rows.Rows.{Rows}
 use Rattle.fam_model.specs.declared.script.Script.{Script}
 use Rattle.fam_model.specs.declared.state.ProgramState.{ProgramState}
 use Rattle.fam_model.specs.declared.state.State.{State}
-use Rattle.fam_model.specs.Directory.{Memory}
-use Rattle.fam_model.specs.Limits.{Limits, service_limits}
+use Rattle.fam_model.specs.Limits.{service_limits}
 use Rattle.fam_model.specs.Lists.{◌>>=◌, when, is_some_and}
 use Rattle.fam_model.specs.Operations.{is_left, may_come, is_past_fences, has_its_bytes}
-use Rattle.fam_model.specs.PieceStep.{bytes_found, due_answer, lose_step, may_answer, memory_by_piece, piece_step, served_answer, with_answer, without_piece}
+use Rattle.fam_model.specs.PieceStep.{bytes_found, due_answer, lose_step, may_answer, memory_by_piece, piece_step, with_answer, without_piece}
 use Rattle.fam_model.specs.Programs.{Placed, has_crashed, placed, program_of, with_placed, with_program}
-use Rattle.fam_model.specs.Rows.{item_of, item_owner}
-use Rattle.fam_model.specs.Same.{same_answer}
 use Rattle.fam_model.specs.Step.{effect, step}
-use Rattle.fam_base.specs.Permission.{is_allowed}
 use Rattle.fam_model.specs.Turn.{is_in_turn}
 use Rattle.fam_schedule.specs.Schedule.{Run, Actor, Program, Stripe, PieceName, Step, actors, acts, drawn, event_after, event_of, is_orphan, is_ready, loss, next_step, piece_event, program_event, ready_on, taken, with_words}
 use Rattle.fam_schedule.proofs.Options.{bind_some, when_some}
@@ -38,47 +24,16 @@ use Rattle.fam_schedule.proofs.Finding.{any_at_place}
 use Rattle.ready_lists.specs.Lists.{may_come_on, same_name}
 use Rattle.ready_lists.proofs.Order.{same_name-refl}
 use Rattle.ready_lists.proofs.Ready.{has_name-ready_on}
+use Rattle.std.proofs.lemmas.Bool.{false≢true}
+use Rattle.fam_steps.specs.Steps.{IsNotEnabled, event_for}
+use Rattle.fam_steps.specs.declared.step.Step.{Step as Asked}
+use Rattle.fam_steps.proofs.Pieces.{may_due}
+use Rattle.fam_steps.proofs.Shapes.{shape_of}
 use Rattle.fam_core.proofs.Leading.{the_step}
 
 -- the event has a step
 abbrev pub Goes : State → Event → Type 0
 Goes state event = is_some (step service_limits state event) ≡ true
-
--- an answer that is due may be given
-answer_same : (a : PieceAnswer) → same_answer a a ≡ true
-answer_same a = answer_laws.laws-law.refl a
-
-may_served : (limits : Limits) (kind : PlanKind) (bytes : List ℕ) → may_answer limits (served_answer kind bytes) (served_answer kind bytes) ≡ true
-unfolding may_answer
-may_served limits plan.Get bytes = answer_same (given.Data bytes)
-may_served limits plan.Fetch bytes = answer_same (given.Data bytes)
-may_served limits plan.Put bytes = answer_same given.Ok
-may_served limits plan.Copy bytes = answer_same given.Ok
-
-may_refused : (limits : Limits) → (may_answer limits (given.Refused error.Absent) (given.Refused error.Absent) ≡ true) × (may_answer limits (given.Refused error.NoPermission) (given.Refused error.NoPermission) ≡ true)
-unfolding may_answer
-may_refused limits = (answer_same (given.Refused error.Absent), answer_same (given.Refused error.NoPermission))
-
-may_by : (limits : Limits) (allowed : Bool) (kind : PlanKind) (bytes : List ℕ) →
-    may_answer limits (if allowed then served_answer kind bytes else given.Refused error.NoPermission) (if allowed then served_answer kind bytes else given.Refused error.NoPermission) ≡ true
-may_by limits true kind bytes = may_served limits kind bytes
-may_by limits false kind bytes = (may_refused limits).1
-
--- the same by the row of its item
-due_by : Option ItemRow → (ItemRow → Bool) → PlanKind → List ℕ → PieceAnswer
-due_by row allowed kind bytes = elim row [
-  | None ↦ given.Refused error.Absent
-  | Some r ↦ if allowed r then served_answer kind bytes else given.Refused error.NoPermission
-]
-
-may_of : (limits : Limits) (row : Option ItemRow) (allowed : ItemRow → Bool) (kind : PlanKind) (bytes : List ℕ) → may_answer limits (due_by row allowed kind bytes) (due_by row allowed kind bytes) ≡ true
-unfolding due_by
-may_of limits None allowed kind bytes = (may_refused limits).0
-may_of limits (Some r) allowed kind bytes = may_by limits (allowed r) kind bytes
-
-may_due : (limits : Limits) (rows : Rows) (memory : Memory) (who : Who) (kind : PlanKind) (piece : PlanPiece) → may_answer limits (due_answer rows memory who kind piece) (due_answer rows memory who kind piece) ≡ true
-unfolding due_answer due_by
-may_due limits rows memory who kind piece = may_of limits (item_of rows piece.item.0) (λ row. is_allowed (item_owner row) row.mode who piece.need) kind (bytes_found memory piece)
 
 -- a piece that may come
 
@@ -208,3 +163,15 @@ next_goes script run s h =
     let choice = drawn (length (actors script run)) run.words in
     let b = bind_some (slice_get (actors script run) choice.0) (λ actor. acts script run actor choice.1) s h in
     actor_goes script run b.0 choice.1 s b.2
+
+-- what comes next is not what a step is for that is not enabled
+pub not_enabled : (script : Script) (run : Run) (wanted : Asked) (later : Lcg) → next_step script run ≡ with_words later (event_for run.now wanted) → IsNotEnabled run.now wanted → next_step script run ≡ None
+not_enabled script run wanted later chooses not = by_event (event_for run.now wanted) refl
+  where
+    by_event : (o : Option Event) → event_for run.now wanted ≡ o → next_step script run ≡ None
+    by_event None e = chooses ∙ ap (with_words later) e
+    by_event (Some event) e =
+        let next : next_step script run ≡ Some (the_step event later) = chooses ∙ ap (with_words later) e in
+        let goes : is_some (step service_limits run.now event) ≡ true = next_goes script run (the_step event later) next in
+        let none : step service_limits run.now event ≡ None = not event (shape_of run.now wanted event e) in
+        absurd (false≢true (sym (ap is_some none) ∙ goes))

@@ -1,29 +1,34 @@
 -- Where a run stands between two events, and how it goes on.
-use Rattle.std.specs.Global.{Global}
-use Rattle.std.specs.Prelude.{◌≡◌, ℕ, ◌≤◌, Bool, true, false, List, [], ◌∷◌, ◌++◌, filter, length, map, slice_get, Option, Some, None, is_some, Vec}
+use Rattle.std.specs.Prelude.{Result, Ok, Err, ◌⊎◌, ◌≡◌, ℕ, ◌≤◌, Bool, true, false, List, [], ◌∷◌, ◌++◌, filter, length, map, slice_get, Option, Some, None, is_some}
 use Rattle.rand_pcg.specs.Lcg.{Lcg}
 use Rattle.fam_model.specs.declared.call.Call.{Call}
 use Rattle.fam_model.specs.declared.event.Event.{Event}
-use Rattle.fam_model.specs.declared.report.ReplyLine.{ReplyLine}
 use Rattle.fam_model.specs.declared.rows.Rows.{Rows}
 use Rattle.fam_model.specs.declared.script.Program.{Program as Text}
 use Rattle.fam_model.specs.declared.script.Script.{Script}
 use Rattle.fam_model.specs.declared.state.State.{State}
+use Rattle.fam_base.specs.declared.error.NoMemory.{NoMemory}
 use Rattle.fam_model.specs.Headline.{opening}
+use Rattle.fam_model.specs.History.{state_after}
 use Rattle.fam_model.specs.Limits.{service_limits}
-use Rattle.fam_model.specs.Lists.{◌>>=◌, is_some_and, numbers_below}
-use Rattle.fam_model.specs.Programs.{program_of}
+use Rattle.fam_model.specs.Lists.{◌>>=◌, numbers_below}
 use Rattle.fam_model.specs.ReportText.{reply_lines}
-use Rattle.fam_model.specs.Rules.{is_due}
 use Rattle.fam_model.specs.Step.{step}
 use Rattle.fam_ready.specs.Ready.{AreReady, IsTidy}
+use Rattle.fam_steps.specs.Steps.{Course, event_for}
+use Rattle.fam_steps.specs.Steps as steps
+use Rattle.fam_steps.specs.declared.step.CoreFault.{CoreFault}
+use Rattle.fam_steps.specs.declared.step.Step.{Step as Asked}
 use Rattle.fam_schedule.specs.Schedule.{Run, Actor, Program, Stripe, PieceName, LeadsTo, IsScheduled, drawn, new_run, next_step, replies_to, taken, with_words}
 use Rattle.fam_schedule.proofs.Runs.{TellsAll}
 use Rattle.fam_turns.specs.Turns.{event_with}
 use Rattle.ready_lists.specs.Lists.{busy_stripes, names_at}
 use Rattle.fam_core.specs.declared.actors.Actor.{Actor as Listed}
 use Rattle.fam_core.specs.declared.actors.Actor.TheVariants as listed
-use Rattle.fam_core.specs.declared.playing.Core.{Core}
+use Rattle.fam_core.specs.declared.chosen.Chosen.{Chosen}
+use Rattle.fam_core.specs.declared.chosen.Chosen.TheVariants as chosen
+use Rattle.fam_core.specs.declared.playing.Player.{Player}
+use Rattle.fam_core.specs.declared.simulation.Played.{Played}
 use Rattle.fam_core.specs.declared.turn.Turn.{Turn}
 use Rattle.fam_core.specs.Turns.{IsTurn, AreHeard, StartsAs}
 
@@ -39,43 +44,44 @@ abbrev pub asked_by : List Turn → ℕ → Option Call
 asked_by turns pe = slice_get turns pe >>= λ turn. turn.asked
 
 -- the next event of a program may come
-abbrev pub may_go : Core → ℕ → Bool
-may_go core pe = is_some (event_with core.machine pe (asked_by core.turns pe))
+abbrev pub may_go : Player → ℕ → Bool
+may_go player pe = is_some (event_with player.service.state pe (asked_by player.turns pe))
 
 -- who may act: the programs in order, and then the stripes in order
-abbrev pub acting : Core → List Actor
-acting core =
-    map Program (filter (may_go core) (numbers_below (length core.turns))) ++ map Stripe (busy_stripes core.ready)
+abbrev pub acting : Player → List Actor
+acting player =
+    map Program (filter (may_go player) (numbers_below (length player.turns))) ++ map Stripe (busy_stripes player.ready)
 
 -- where a run stands
 
 -- the run of this history, with these words left
-abbrev pub run_of : Core → List Event → Lcg → Run
-run_of core history words = record { before = history; now = core.machine; words = words }
+abbrev pub run_of : Player → List Event → Lcg → Run
+run_of player history words = record { before = history; now = player.service.state; words = words }
 
--- the core has what a script leads to by this history
-pub record Stands (script : Script) (history : List Event) (core : Core) : Type 0 where
-  pub few : length core.turns ≤ 64
-  pub programs : length core.machine.programs ≡ length script.programs
-  pub count : length core.turns ≡ length script.programs
-  pub turns : (pe : ℕ) (turn : Turn) (text : Text) → slice_get core.turns pe ≡ Some turn → slice_get script.programs pe ≡ Some text →
+-- the player has what a script leads to by this history
+pub record Stands (script : Script) (history : List Event) (player : Player) : Type 0 where
+  pub few : length player.turns ≤ 64
+  pub programs : length player.service.state.programs ≡ length script.programs
+  pub count : length player.turns ≡ length script.programs
+  pub turns : (pe : ℕ) (turn : Turn) (text : Text) → slice_get player.turns pe ≡ Some turn → slice_get script.programs pe ≡ Some text →
       IsTurn text pe (replies_to history pe) turn
-  pub ready : AreReady core.machine core.ready
-  pub tells : (words : Lcg) → TellsAll script (run_of core history words)
-  pub tidy : IsTidy core.machine
+  pub ready : AreReady player.service.state player.ready
+  pub tells : (words : Lcg) → TellsAll script (run_of player history words)
+  pub tidy : IsTidy player.service.state
+  pub made : player.service.history ≡ history
 
 -- of some script, by some history
-abbrev pub IsStanding : Core → Type 0
-IsStanding core = (script : Script) × (history : List Event) × Stands script history core
+abbrev pub IsStanding : Player → Type 0
+IsStanding player = (script : Script) × (history : List Event) × Stands script history player
 
 -- by this history, which the seed gives
-pub record StandsAfter (rows : Rows) (script : Script) (seed : ℕ) (history : List Event) (core : Core) (words : Lcg) : Type 0 where
-  pub leads : LeadsTo script (new_run rows script seed) history (run_of core history words)
-  pub stands : Stands script history core
+pub record StandsAfter (rows : Rows) (script : Script) (seed : ℕ) (history : List Event) (player : Player) (words : Lcg) : Type 0 where
+  pub leads : LeadsTo script (new_run rows script seed) history (run_of player history words)
+  pub stands : Stands script history player
 
--- by this history, of some script
-abbrev pub IsRunning : List Event → Core → Lcg → Type 0
-IsRunning history core words = (rows : Rows) × (script : Script) × (seed : ℕ) × StandsAfter rows script seed history core words
+-- by its own history, of some script
+abbrev pub IsRunning : Player → Lcg → Type 0
+IsRunning player words = (rows : Rows) × (script : Script) × (seed : ℕ) × StandsAfter rows script seed player.service.history player words
 
 -- how it begins
 
@@ -88,20 +94,21 @@ pub record StartSoFar (texts : List Text) (n : ℕ) (turns : List Turn) : Type 0
 abbrev pub StartAs : List Text → List Turn → Type 0
 StartAs texts turns = StartSoFar texts (length texts) turns
 
--- a core before the first event
-pub record IsOpened (rows : Rows) (script : Script) (core : Core) : Type 0 where
-  pub machine : core.machine ≡ opening rows script
-  pub stands : Stands script [] core
+-- a player before the first event of a run
+pub record IsOpened (rows : Rows) (script : Script) (player : Player) : Type 0 where
+  pub machine : player.service.state ≡ opening rows script
+  pub stands : Stands script [] player
 
--- the event that comes next
+-- a run of some script before its first event
+abbrev pub IsBegun : Player → Type 0
+IsBegun player = (rows : Rows) × (script : Script) × IsOpened rows script player
 
--- the piece may come
-abbrev pub is_due_at : State → PieceName → Bool
-is_due_at state name = is_some_and (program_of state name.pe) (λ p. is_due p name.call name.piece)
+-- what comes next
 
--- the event of a program that may act
-abbrev pub OfProgram : Core → ℕ → Option Event → Type 0
-OfProgram core pe event = may_go core pe ≡ true → event ≡ event_with core.machine pe (asked_by core.turns pe)
+-- the event that is made where this was chosen
+abbrev pub chosen_event : Player → Chosen → Option Event
+chosen_event player (chosen.Turn pe) = event_with player.service.state pe (asked_by player.turns pe)
+chosen_event player (chosen.Move asked) = event_for player.service.state asked
 
 -- one of these pieces is drawn, and an event comes of it
 abbrev pub drawn_of : State → List PieceName → Lcg → Option (Event × Lcg)
@@ -109,15 +116,16 @@ drawn_of state ready words =
     let choice = drawn (length ready) words in
     slice_get ready choice.0 >>= λ name. taken state name choice.1
 
--- the event of a stripe, and the words left, where all its pieces may come
-abbrev pub OnStripe : Core → ℕ → Lcg → Lcg → Option Event → Type 0
-OnStripe core stripe words later event =
-    AreReady core.machine core.ready → drawn_of core.machine (names_at core.ready stripe) words ≡ with_words later event
+-- the step of a stripe, and the words left
+abbrev pub OnStripe : Player → ℕ → Lcg → Lcg → Option Asked → Type 0
+OnStripe player stripe words later asked =
+    drawn_of player.service.state (names_at player.ready stripe) words ≡ with_words later (asked >>= event_for player.service.state)
 
--- the event that comes next, and the words left
-abbrev pub Chooses : Core → Lcg → Lcg → Option Event → Type 0
-Chooses core words later event =
-    (script : Script) (history : List Event) → Stands script history core → next_step script (run_of core history words) ≡ with_words later event
+-- what comes next, and the words left
+abbrev pub Chooses : Player → Lcg → Lcg → Option Chosen → Type 0
+Chooses player words later choice =
+    (script : Script) (history : List Event) → Stands script history player →
+    next_step script (run_of player history words) ≡ with_words later (choice >>= chosen_event player)
 
 -- how it goes on
 
@@ -126,30 +134,62 @@ abbrev pub Follows : List (List PieceName) → Event → State → List (List Pi
 Follows ready event next ready_next =
     (old : State) → AreReady old ready → IsTidy old → step service_limits old event ≡ Some next → AreReady next ready_next
 
--- the core after an event
-pub record Makes (old : Core) (event : Event) (new : Core) : Type 0 where
-  pub steps : step service_limits old.machine event ≡ Some new.machine
-  pub follows : Follows old.ready event new.machine new.ready
+-- the player after an event
+pub record Makes (old : Player) (event : Event) (new : Player) : Type 0 where
+  pub makes : steps.Makes old.service event new.service
+  pub follows : Follows old.ready event new.service.state new.ready
   pub hears : AreHeard event old.turns new.turns
 
--- the core after the event that comes next, and the words left; none comes where nobody may act
-abbrev pub Advances : Core → Lcg → Core → Lcg → Option Event → Type 0
-Advances old words new later None =
+-- the service after what was chosen; after a fault it is as it was
+abbrev pub Acts : Player → Chosen → Course → Result Unit CoreFault → Type 0
+Acts player (chosen.Turn pe) new result = steps.TakesTurn player.service pe (asked_by player.turns pe) new result
+Acts player (chosen.Move asked) new result = steps.Advances player.service asked new result
+
+-- the last event is known to the lists and to its program, if there is one
+abbrev pub LetsKnow : Player → Player → Bool → Type 0
+LetsKnow old new true =
+    (before : List Event) (event : Event) → old.service.history ≡ before ++ event ∷ [] →
+    Follows old.ready event old.service.state new.ready × AreHeard event old.turns new.turns
+LetsKnow old new false = (before : List Event) (event : Event) → ¬ (old.service.history ≡ before ++ event ∷ [])
+
+-- no event comes of what was chosen
+abbrev pub ComesNot : Player → Chosen → Type 0
+ComesNot player (chosen.Turn pe) = event_with player.service.state pe (asked_by player.turns pe) ≡ None
+ComesNot player (chosen.Move asked) = steps.IsNotEnabled player.service.state asked
+
+-- whether what was chosen was made; after want of memory the service may have made its event, and nobody heard of it
+abbrev pub IsMade : Player → Chosen → Player → Result Bool NoMemory → Type 0
+IsMade old choice new (Ok true) = (event : Event) × (chosen_event old choice ≡ Some event) × Makes old event new
+IsMade old choice new (Ok false) = ComesNot old choice × (new ≡ old)
+IsMade old choice new (Err _) =
+    (new.service ≡ old.service) ⊎ ((event : Event) × (chosen_event old choice ≡ Some event) × steps.Makes old.service event new.service)
+
+-- the event that comes next, and the words left; by it the service is in this state
+abbrev pub IsNext : Player → Lcg → Event → Lcg → State → Type 0
+IsNext player words event later next =
+    (script : Script) (history : List Event) → Stands script history player →
+    (next_step script (run_of player history words) ≡ with_words later (Some event)) × (step service_limits player.service.state event ≡ Some next)
+
+-- The player after what comes next, and the words left. Nothing does where nobody may act. After want of memory the service
+-- may have made its event.
+abbrev pub Advances : Player → Lcg → Player → Lcg → Result Bool NoMemory → Type 0
+Advances old words new later (Ok false) =
     (new ≡ old) × ((script : Script) (history : List Event) → Stands script history old → next_step script (run_of old history words) ≡ None)
-Advances old words new later (Some event) =
-    (script : Script) (history : List Event) → Stands script history old →
-    (next_step script (run_of old history words) ≡ with_words later (Some event))
-    × (step service_limits old.machine event ≡ Some new.machine)
-    × Stands script (history ++ event ∷ []) new
+Advances old words new later (Ok true) =
+    (event : Event) × IsNext old words event later new.service.state
+    × ((script : Script) (history : List Event) → Stands script history old → Stands script (history ++ event ∷ []) new)
+Advances old words new later (Err _) =
+    (new.service.history ≡ old.service.history)
+    ⊎ ((event : Event) × IsNext old words event later new.service.state × (new.service.history ≡ old.service.history ++ event ∷ []))
 
--- a run that was played on until nobody may act, or until memory or room for its history was wanting
-abbrev pub IsPlayed : Rows → Script → ℕ → List Event → Core → Bool → Type 0
-IsPlayed rows script seed history core true =
-    (words : Lcg) × StandsAfter rows script seed history core words × (next_step script (run_of core history words) ≡ None)
-IsPlayed rows script seed history core false = IsScheduled rows script seed history false
+-- a run that was played on until nobody may act, or until memory was wanting
+abbrev pub IsPlayed : Rows → Script → ℕ → Player → Bool → Type 0
+IsPlayed rows script seed player true =
+    (words : Lcg) × StandsAfter rows script seed player.service.history player words × (next_step script (run_of player player.service.history words) ≡ None)
+IsPlayed rows script seed player false = IsScheduled rows script seed player.service.history false
 
--- the reply lines of a whole run, or the run so far
-abbrev pub IsReported : Rows → Script → ℕ → List Event → Option (Vec ReplyLine Global) → Type 0
-IsReported rows script seed history (Some lines) =
-    IsScheduled rows script seed history true × (lines.items ≡ reply_lines (length script.programs) history)
-IsReported rows script seed history None = IsScheduled rows script seed history false
+-- a script was played: this is its history, its state and, where it is whole, its reply lines
+pub record IsPlayedOut (rows : Rows) (script : Script) (seed : ℕ) (played : Played) : Type 0 where
+  pub scheduled : IsScheduled rows script seed played.service.history played.whole
+  pub state : played.whole ≡ true → state_after service_limits (opening rows script) played.service.history ≡ Some played.service.state
+  pub replies : played.whole ≡ true → played.replies.items ≡ reply_lines (length script.programs) played.service.history

@@ -7,7 +7,7 @@ ghost use Rattle.fam_turns.specs.Turns.{event_with};
 ghost use Rattle.ready_lists.specs.Lists.{busy_stripes};
 ghost use Rattle.fam_core.specs.Playing.{actor_of, acting, asked_by, may_go};
 
-use crate::playing::Core;
+use crate::playing::Player;
 use fam_base::NoMemory;
 use fam_turns::may_act;
 use ready_lists::ReadyLists;
@@ -20,26 +20,26 @@ pub enum Actor {
 }
 
 /// Whether the next event of a program may come.
-fn may_go(core: &Core, pe: u32) -> bool
-    ensures { result ≡ may_go core.now pe }
+fn may_go(player: &Player, pe: u32) -> bool
+    ensures { result ≡ may_go player.now pe }
 {
-    let Some(program) = core.machine.program(pe) else {
+    let Some(program) = player.service.machine().program(pe) else {
         return false;
     };
-    match core.turns.get(pe as usize) {
-        Some(turn) => may_act(program, core.machine.round(), &turn.asked),
-        None => may_act(program, core.machine.round(), &None),
+    match player.turns.get(pe as usize) {
+        Some(turn) => may_act(program, player.service.machine().round(), &turn.asked),
+        None => may_act(program, player.service.machine().round(), &None),
     }
 }
 
 /// Lists the programs that may act, in order, behind what is listed.
-fn list_programs(core: &Core, actors: &mut Vec<Actor>) -> Result<(), NoMemory>
-    requires { length core.now.turns ≤ 64 }
+fn list_programs(player: &Player, actors: &mut Vec<Actor>) -> Result<(), NoMemory>
+    requires { length player.now.turns ≤ 64 }
     ensures { OnOk result (map actor_of actors.new.items ≡
-        map actor_of actors.old.items ++ map schedule.Program (filter (may_go core.now) (numbers_below (length core.now.turns)))) }
+        map actor_of actors.old.items ++ map schedule.Program (filter (may_go player.now) (numbers_below (length player.now.turns)))) }
 {
-    for pe in 0..core.turns.len() {
-        if may_go(core, pe as u32) {
+    for pe in 0..player.turns.len() {
+        if may_go(player, pe as u32) {
             actors.push(Actor::Program(pe as u32))?;
         }
     }
@@ -59,11 +59,11 @@ fn list_stripes(ready: &ReadyLists, actors: &mut Vec<Actor>) -> Result<(), NoMem
 }
 
 /// Lists who may act in place of what is listed: the programs in order, and then the stripes in order.
-pub fn list_actors(core: &Core, actors: &mut Vec<Actor>) -> Result<(), NoMemory>
-    requires { length core.now.turns ≤ 64 }
-    ensures { OnOk result (map actor_of actors.new.items ≡ acting core.now) }
+pub fn list_actors(player: &Player, actors: &mut Vec<Actor>) -> Result<(), NoMemory>
+    requires { length player.now.turns ≤ 64 }
+    ensures { OnOk result (map actor_of actors.new.items ≡ acting player.now) }
 {
     actors.clear();
-    list_programs(core, actors)?;
-    list_stripes(&core.ready, actors)
+    list_programs(player, actors)?;
+    list_stripes(&player.ready, actors)
 }

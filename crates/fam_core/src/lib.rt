@@ -10,4 +10,5 @@ mod simulation;
 mod tests;
 mod turn;
 
-pub use simulation::{Simulated, simulate};
+pub use fam_steps::{Core, CoreFault, Step};
+pub use simulation::{Played, Simulated, play_script, simulate};

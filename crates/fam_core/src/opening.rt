@@ -6,11 +6,11 @@ ghost use Rattle.fam_model.specs.Headline.{opening};
 ghost use Rattle.fam_model.specs.Rows.{IsLawful};
 ghost use Rattle.fam_core.specs.Playing.{IsOpened, StartAs};
 
-use crate::playing::Core;
+use crate::playing::Player;
 use crate::turn::Turn;
 use fam_base::{NoMemory, Sequence, Who};
-use fam_machine::Machine;
 use fam_model::{Rows, Script};
+use fam_steps::Core;
 use ready_lists::ReadyLists;
 use std::alloc::Global;
 
@@ -37,21 +37,21 @@ fn new_turns(alloc: Global, script: &Script) -> Result<Sequence<Turn>, NoMemory>
     Ok(turns)
 }
 
-impl Core {
+impl Player {
     /// The run of a script before its first event, with these rows in the directory.
-    pub fn new(alloc: Global, rows: Rows, script: &Script) -> Result<Core, NoMemory>
+    pub fn new(alloc: Global, rows: Rows, script: &Script) -> Result<Player, NoMemory>
         requires script { IsLawfulScript script.now }
         requires rows { IsLawful rows }
-        ensures { IfOk result (λ core. IsOpened rows script.now core) }
+        ensures { IfOk result (λ player. IsOpened rows script.now player) }
     {
         let whos = users(alloc, script)?;
-        let service = script.service;
-        let machine = Machine::opened(alloc, rows, service, &whos, whos.len() as u32)?;
+        let form = script.service;
+        let service = Core::new(alloc, form, &whos, rows)?;
         let turns = new_turns(alloc, script)?;
-        let stripes = usize::from(service.servers) * usize::from(service.stripes);
+        let stripes = usize::from(form.servers) * usize::from(form.stripes);
         let ready = ReadyLists::new(alloc, stripes)?;
-        Ok(Core {
-            machine,
+        Ok(Player {
+            service,
             turns,
             ready,
         })

@@ -1,36 +1,25 @@
 //! A run between two events.
 
-ghost use Rattle.std.specs.Prelude.{◌≡◌, true, is_some, OnOk};
-ghost use Rattle.fam_model.specs.Limits.{service_limits};
-ghost use Rattle.fam_model.specs.Step.{step};
-ghost use Rattle.fam_core.specs.Playing.{Follows, Makes};
+ghost use Rattle.std.specs.Prelude.{◌≡◌, IfOk, OnOk};
+ghost use Rattle.fam_steps.specs.Steps as steps;
+ghost use Rattle.fam_core.specs.Playing.{Acts, asked_by, Follows, IsMade, LetsKnow};
 ghost use Rattle.fam_core.specs.Turns.{AreHeard};
 
+use crate::chosen::Chosen;
 use crate::turn::{Turn, told};
-use fam_base::{NoMemory, Sequence};
-use fam_machine::{Machine, StepError};
+use fam_base::{NoMemory, PeId, Sequence};
+use fam_machine::Machine;
 use fam_model::Event;
 use fam_ready::follow;
+use fam_steps::{Core, CoreFault};
 use ready_lists::ReadyLists;
 
-/// The machine, the programs on their way, and for each stripe the pieces that may come.
+/// The service, the programs on their way, and for each stripe the pieces that may come.
 #[derive(Drop)]
-pub struct Core {
-    pub machine: Machine,
+pub struct Player {
+    pub service: Core,
     pub turns: Sequence<Turn>,
     pub ready: ReadyLists,
-}
-
-/// The machine makes the step of an event that may come.
-fn step(machine: &mut Machine, event: &Event) -> Result<(), NoMemory>
-    requires { is_some (step service_limits machine.old event.now) ≡ true }
-    ensures { OnOk result (step service_limits machine.old event.now ≡ Some machine.new) }
-{
-    match machine.step(event) {
-        Ok(()) => Ok(()),
-        Err(StepError::Memory) => Err(NoMemory),
-        Err(StepError::Illegal(_)) => unreachable!(),
-    }
 }
 
 /// The lists after an event.
@@ -58,14 +47,53 @@ fn hear(turns: &mut Sequence<Turn>, event: &Event) -> Result<(), NoMemory>
     turn.replied(event.pe.0, reply)
 }
 
-impl Core {
-    /// Makes the step of an event that may come. After want of memory it is of no more use.
-    pub fn make(&mut self, event: &Event) -> Result<(), NoMemory>
-        requires { is_some (step service_limits self.old.machine event.now) ≡ true }
-        ensures { OnOk result (Makes self.old event.now self.new) }
+impl Player {
+    /// The service makes what was chosen.
+    fn act(&mut self, chosen: &Chosen) -> Result<(), CoreFault>
+        ensures acts { Acts self.old chosen.now self.new.service result }
+        ensures turns { self.new.turns ≡ self.old.turns }
+        ensures ready { self.new.ready ≡ self.old.ready }
     {
-        step(&mut self.machine, event)?;
-        keep_ready(&mut self.ready, &self.machine, event)?;
-        hear(&mut self.turns, event)
+        match chosen {
+            Chosen::Turn(pe) => self.take_turn(*pe),
+            Chosen::Move(step) => self.service.advance(step),
+        }
+    }
+
+    /// The service makes the next event of a program.
+    fn take_turn(&mut self, pe: u32) -> Result<(), CoreFault>
+        ensures takes { steps.TakesTurn self.old.service pe (asked_by self.old.turns pe) self.new.service result }
+        ensures turns { self.new.turns ≡ self.old.turns }
+        ensures ready { self.new.ready ≡ self.old.ready }
+    {
+        match self.turns.get(pe as usize) {
+            Some(turn) => self.service.go_on(PeId(pe), &turn.asked),
+            None => self.service.go_on(PeId(pe), &None),
+        }
+    }
+
+    /// Makes what was chosen, and lets its event be known. False where that may not come: then nothing is done. After want
+    /// of memory the player is of no more use.
+    pub fn make(&mut self, chosen: &Chosen) -> Result<bool, NoMemory>
+        ensures { IsMade self.old chosen.now self.new result }
+    {
+        match self.act(chosen) {
+            Ok(()) => self.let_know(),
+            Err(CoreFault::NotEnabled) => Ok(false),
+            Err(CoreFault::Memory) => Err(NoMemory),
+        }
+    }
+
+    /// Lets the last event be known to the lists and to its program. False where there is none.
+    fn let_know(&mut self) -> Result<bool, NoMemory>
+        ensures known { IfOk result (LetsKnow self.old self.new) }
+        ensures service { self.new.service ≡ self.old.service }
+    {
+        let Some(event) = self.service.last() else {
+            return Ok(false);
+        };
+        keep_ready(&mut self.ready, self.service.machine(), event)?;
+        hear(&mut self.turns, event)?;
+        Ok(true)
     }
 }

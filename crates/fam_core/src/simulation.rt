@@ -1,6 +1,6 @@
 //! A script played to its end.
 
-ghost use Rattle.std.specs.Prelude.{◌≡◌, ◌∷◌, ◌++◌, ℕ, [], true, length, IfOk, OnErr, OnOk};
+ghost use Rattle.std.specs.Prelude.{◌≡◌, ℕ, false, true, length, IfOk};
 ghost use Rattle.std.specs.List.{flat_map};
 ghost use Rattle.fam_model.specs.Grammar.{IsLawfulScript};
 ghost use Rattle.fam_model.specs.ReportText.{reply_lines};
@@ -8,69 +8,46 @@ ghost use Rattle.fam_model.specs.Rows.{IsLawful};
 ghost use Rattle.fam_schedule.specs.Schedule as schedule;
 ghost use Rattle.fam_model.specs.declared.rows.Rows.{Rows};
 ghost use Rattle.fam_model.specs.declared.script.Script.{Script};
-ghost use Rattle.fam_core.specs.Playing.{Advances, IsReported, IsRunning, IsStanding, IsPlayed, StandsAfter};
+ghost use Rattle.fam_core.specs.Playing.{Advances, IsBegun, IsOpened, IsPlayed, IsPlayedOut, IsRunning, IsStanding, StandsAfter};
 
 use crate::actors::{Actor, list_actors};
 use crate::chosen::choose;
-use crate::playing::Core;
+use crate::playing::Player;
 use crate::turn::Turn;
 use fam_base::{NoMemory, Sequence};
 use fam_model::{Event, ReplyLine, Rows, Script};
 use fam_schedule::words_of;
+use fam_steps::Core;
 use rand_pcg::Pcg32;
 use std::alloc::Global;
 
-/// A run of a script: its history, and the reply lines of its report. Where memory was wanting it is not whole: its
-/// history is then the run so far, and there are no reply lines.
-#[derive(Drop)]
-pub struct Simulated {
-    pub history: Vec<Event>,
-    pub replies: Vec<ReplyLine>,
-    pub whole: bool,
-}
-
-/// One step: the event that comes next is made. None where nobody may act.
+/// One step: what comes next is made. False where nobody may act.
 fn advance(
-    alloc: Global,
-    core: &mut Core,
+    player: &mut Player,
     actors: &mut Vec<Actor>,
     words: &mut Pcg32,
-) -> Result<Option<Event>, NoMemory>
-    requires { IsStanding core.old }
-    ensures { IfOk result (Advances core.old words.old core.new words.new) }
+) -> Result<bool, NoMemory>
+    requires { IsStanding player.old }
+    ensures { Advances player.old words.old player.new words.new result }
 {
-    list_actors(core, actors)?;
-    let Some(event) = choose(alloc, core, actors, words)? else {
-        return Ok(None);
+    list_actors(player, actors)?;
+    let Some(chosen) = choose(player, actors, words) else {
+        return Ok(false);
     };
-    core.make(&event)?;
-    Ok(Some(event))
+    player.make(&chosen)
 }
 
-/// Appends an event. After want of memory the history is as before.
-fn record(history: &mut Vec<Event>, event: Event) -> Result<(), NoMemory>
-    ensures ok { OnOk result (history.new.items ≡ history.old.items ++ event ∷ []) }
-    ensures err { OnErr result (history.new.items ≡ history.old.items) }
-{
-    history.push(event)?;
-    Ok(())
-}
-
-/// Plays on until nobody may act. False where memory, or room for the history, was wanting before.
-fn play(alloc: Global, core: &mut Core, words: &mut Pcg32, history: &mut Vec<Event>) -> bool
-    requires { IsRunning history.old.items core.old words.old }
-    ensures { (rows : Rows) (script : Script) (seed : ℕ) → StandsAfter rows script seed history.old.items core.old words.old →
-        IsPlayed rows script seed history.new.items core.new result }
+/// Plays on until nobody may act. False where memory was wanting before.
+fn play(alloc: Global, player: &mut Player, words: &mut Pcg32) -> bool
+    requires { IsRunning player.old words.old }
+    ensures { (rows : Rows) (script : Script) (seed : ℕ) → StandsAfter rows script seed player.old.service.history player.old words.old →
+        IsPlayed rows script seed player.new result }
 {
     let mut actors = Vec::new(alloc);
     for _ in 0..u64::MAX {
-        match advance(alloc, core, &mut actors, words) {
-            Ok(Some(event)) => {
-                let Ok(()) = record(history, event) else {
-                    return false;
-                };
-            }
-            Ok(None) => return true,
+        match advance(player, &mut actors, words) {
+            Ok(true) => {}
+            Ok(false) => return true,
             Err(_) => return false,
         }
     }
@@ -92,33 +69,77 @@ fn all_lines(alloc: Global, turns: Sequence<Turn>) -> Result<Vec<ReplyLine>, NoM
     }
 }
 
-/// Plays a script to its end, behind an empty history. The reply lines of its report, where it is whole.
-fn run(
+/// A script that was played: the service as it stands behind it, and the reply lines of its report. Where memory was wanting
+/// it is not whole: the history is then the run so far, and there are no reply lines.
+#[derive(Drop)]
+pub struct Played {
+    pub service: Core,
+    pub replies: Vec<ReplyLine>,
+    pub whole: bool,
+}
+
+/// Plays a script that was opened to its end.
+fn play_out(alloc: Global, mut player: Player, seed: u64) -> Played
+    requires { IsBegun player }
+    ensures { (rows : Rows) (script : Script) → IsOpened rows script player → IsPlayedOut rows script seed result }
+{
+    let mut words = words_of(seed);
+    let whole = play(alloc, &mut player, &mut words);
+    let Player { service, turns, .. } = player;
+    if !whole {
+        return so_far(alloc, service);
+    }
+    match all_lines(alloc, turns) {
+        Ok(replies) => Played {
+            service,
+            replies,
+            whole: true,
+        },
+        Err(_) => so_far(alloc, service),
+    }
+}
+
+/// What was played so far, where memory was wanting.
+fn so_far(alloc: Global, service: Core) -> Played
+    ensures service { result.service ≡ service }
+    ensures whole { result.whole ≡ false }
+{
+    Played {
+        service,
+        replies: Vec::new(alloc),
+        whole: false,
+    }
+}
+
+/// Plays a lawful script on one thread, with these rows in its directory, in the order that the seed draws. The service is
+/// handed out as it stands at the end.
+///
+/// The history is the one that the schedule gives for the seed, up to its end where the run is whole, and else a front of
+/// it. Where it is whole the reply lines are those of its report, and the machine is the one behind the history.
+pub fn play_script(
     alloc: Global,
     rows: Rows,
     script: &Script,
     seed: u64,
-    history: &mut Vec<Event>,
-) -> Option<Vec<ReplyLine>>
+) -> Result<Played, NoMemory>
     requires script { IsLawfulScript script.now }
     requires rows { IsLawful rows }
-    requires empty { history.old.items ≡ [] }
-    ensures { IsReported rows script.now seed history.new.items result }
+    ensures { IfOk result (IsPlayedOut rows script.now seed) }
 {
-    let Ok(mut core) = Core::new(alloc, rows, script) else {
-        return None;
-    };
-    let mut words = words_of(seed);
-    if !play(alloc, &mut core, &mut words, history) {
-        return None;
-    }
-    match all_lines(alloc, core.turns) {
-        Ok(lines) => Some(lines),
-        Err(_) => None,
-    }
+    let player = Player::new(alloc, rows, script)?;
+    Ok(play_out(alloc, player, seed))
 }
 
-/// Plays a lawful script on one thread, with these rows in its directory, in the order that the seed draws.
+/// A run of a script: its history, and the reply lines of its report. Where memory was wanting it is not whole: its
+/// history is then the run so far, and there are no reply lines.
+#[derive(Drop)]
+pub struct Simulated {
+    pub history: Vec<Event>,
+    pub replies: Vec<ReplyLine>,
+    pub whole: bool,
+}
+
+/// Plays a lawful script as `play_script` does, and hands out its history.
 ///
 /// The history is the one that the schedule gives for the seed, up to its end where the run is whole, and else a front of
 /// it. The reply lines of a whole run are those of its report.
@@ -128,15 +149,20 @@ pub fn simulate(alloc: Global, rows: Rows, script: &Script, seed: u64) -> Simula
     ensures scheduled { schedule.IsScheduled rows script.now seed result.history.items result.whole }
     ensures replies { result.whole ≡ true → result.replies.items ≡ reply_lines (length script.now.programs) result.history.items }
 {
-    let mut history = Vec::new(alloc);
-    match run(alloc, rows, script, seed, &mut history) {
-        Some(replies) => Simulated {
-            history,
+    match play_script(alloc, rows, script, seed) {
+        Ok(
+            Played {
+                service,
+                replies,
+                whole,
+            },
+        ) => Simulated {
+            history: service.into_history(),
             replies,
-            whole: true,
+            whole,
         },
-        None => Simulated {
-            history,
+        Err(_) => Simulated {
+            history: Vec::new(alloc),
             replies: Vec::new(alloc),
             whole: false,
         },

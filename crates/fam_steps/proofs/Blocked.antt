@@ -1,9 +1,8 @@
 -- Where no event of the shape of a step may come.
-use Rattle.std.proofs.Common.{◌≡◌, ℕ, Bool, true, false, refl, sym, ap, ◌∙◌, arith, subst, eqb-true}
+use Rattle.std.proofs.Common.{◌≡◌, ℕ, Bool, true, false, refl, sym, ap, ◌∙◌, eqb-true}
 use Rattle.std.specs.Prelude.{◌==◌, ◌&&◌, ◌||◌, not, slice_get, Option, Some, None, is_some, if◌then◌else◌}
 use Rattle.std.specs.Option.{option_map}
 use Rattle.std.proofs.lemmas.Bool.{false≢true}
-use Rattle.std.proofs.lemmas.Bool.Decides.{nat_tests}
 use Rattle.fam_model.specs.declared.call.Call.{Call}
 use Rattle.fam_model.specs.declared.call.Call.TheVariants as call
 use Rattle.fam_model.specs.declared.event.Event.{Event}
@@ -20,7 +19,7 @@ use Rattle.fam_model.specs.declared.state.Started.{Started}
 use Rattle.fam_model.specs.declared.state.Started.TheVariants as begun
 use Rattle.fam_model.specs.declared.state.State.{State}
 use Rattle.fam_model.specs.declared.service.Service.{Service}
-use Rattle.fam_model.specs.ContextStep.{answer_step, close_step, quiet_step, wait_step, with_nothing_started, answered_step}
+use Rattle.fam_model.specs.ContextStep.{answer_step, close_step, quiet_step, wait_step, with_nothing_started}
 use Rattle.fam_model.specs.EndStep.{arrive_step, has_pending, leave_step, may_arrive}
 use Rattle.fam_model.specs.Issue.{issue_refusal}
 use Rattle.fam_model.specs.IssueStep.{accepted, issue_step, issue_with}
@@ -36,7 +35,7 @@ use Rattle.fam_model.specs.Same.{same_reply}
 use Rattle.fam_model.specs.Shape.{is_shaped}
 use Rattle.fam_model.specs.Step.{effect, step}
 use Rattle.fam_model.specs.Turn.{answers_started, call_made, is_idle, is_in_turn, is_next}
-use Rattle.fam_turns.specs.Turns.{is_busy, is_copying, may_act, may_begin, may_finish, may_go}
+use Rattle.fam_turns.specs.Turns.{is_busy, is_copying, may_act, may_begin, may_go}
 use Rattle.fam_turns.proofs.Coming.{turn_is}
 use Rattle.fam_base.specs.declared.naming.PeId.{PeId}
 use Rattle.fam_machine.specs.Views.{due_at}
@@ -48,7 +47,6 @@ use Rattle.fam_model.specs.Rules.{is_due}
 use Rattle.fam_program.specs.Parts.{is_left_piece}
 use Rattle.fam_program.proofs.Reporting.{is_some_when}
 use Rattle.std.specs.Prelude.{nat_lt}
-use Rattle.fam_steps.specs.declared.step.Step.{Step}
 use Rattle.fam_steps.specs.declared.step.Step.TheVariants as asked
 use Rattle.fam_model.specs.Text.{is_crash}
 use Rattle.fam_steps.specs.Steps.{HasShape, IsNotEnabled}

@@ -1,14 +1,13 @@
 -- One event more keeps a history legal.
-use Rattle.std.proofs.Common.{◌≡◌, refl, sym, ap, ◌∙◌}
-use Rattle.std.specs.Prelude.{[], ◌∷◌, ◌++◌, List, Option, Some}
+use Rattle.std.proofs.Common.{◌≡◌, sym, ap, ◌∙◌}
+use Rattle.std.specs.Prelude.{[], ◌∷◌, Option, Some}
 use Rattle.fam_model.specs.declared.event.Event.{Event}
 use Rattle.fam_model.specs.declared.state.State.{State}
 use Rattle.fam_model.specs.History.{state_after}
 use Rattle.fam_model.specs.Limits.{service_limits}
 use Rattle.fam_model.specs.Lists.{◌>>=◌}
-use Rattle.fam_model.specs.Step.{step}
 use Rattle.fam_model.proofs.Histories.{state_after-append}
-use Rattle.fam_steps.specs.Steps.{Course, GoesOn, Makes, Ran}
+use Rattle.fam_steps.specs.Steps.{Course, GoesOn, Makes}
 
 pub goes_on : (old new : Course) (event : Event) → Makes old event new → GoesOn old new
 goes_on old new event m start ran =

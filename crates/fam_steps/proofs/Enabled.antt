@@ -1,13 +1,9 @@
 -- The event that was found for a step.
 use Rattle.std.proofs.Common.{◌≡◌, ℕ, Bool, true, false, refl, sym, ap, ◌∙◌, subst}
-use Rattle.std.specs.Prelude.{Result, Ok, Err, IfOk, ◌&&◌, not, slice_get, Option, Some, None, is_some, if◌then◌else◌}
+use Rattle.std.specs.Prelude.{Result, Ok, Err, IfOk, ◌&&◌, not, Option, Some, None, is_some}
 use Rattle.fam_base.specs.declared.naming.PeId.{PeId}
-use Rattle.fam_machine.specs.Views.{due_at}
 use Rattle.fam_model.specs.declared.call.Call.{Call}
-use Rattle.fam_model.specs.declared.call.Call.TheVariants as call
 use Rattle.fam_model.specs.declared.event.Event.{Event}
-use Rattle.fam_model.specs.declared.event.What.{What}
-use Rattle.fam_model.specs.declared.event.What.TheVariants as what
 use Rattle.fam_model.specs.declared.state.ProgramState.{ProgramState}
 use Rattle.fam_model.specs.declared.state.Started.{Started}
 use Rattle.fam_model.specs.declared.state.Started.TheVariants as begun
@@ -15,8 +11,8 @@ use Rattle.fam_model.specs.declared.state.State.{State}
 use Rattle.fam_model.specs.Limits.{service_limits}
 use Rattle.fam_model.specs.Lists.{◌>>=◌, when, is_some_and}
 use Rattle.fam_model.specs.Programs.{program_of, is_running}
-use Rattle.fam_model.specs.Step.{effect, step}
-use Rattle.fam_model.specs.Turn.{call_made, is_idle, is_in_turn, is_next}
+use Rattle.fam_model.specs.Step.{step}
+use Rattle.fam_model.specs.Turn.{is_idle}
 use Rattle.fam_schedule.specs.Schedule.{event_of}
 use Rattle.fam_schedule.proofs.Options.{bind_some, when_some}
 use Rattle.fam_turns.specs.declared.next.Next.{Next}
@@ -26,9 +22,9 @@ use Rattle.fam_turns.proofs.Coming.{acts}
 use Rattle.fam_steps.specs.declared.step.Step.{Step}
 use Rattle.fam_steps.specs.declared.step.Step.TheVariants as asked
 use Rattle.fam_model.specs.Text.{is_crash}
-use Rattle.fam_steps.specs.Steps.{HasShape, IsEnabled, IsFound, IsNotEnabled, event_for, has_started}
+use Rattle.fam_steps.specs.Steps.{IsEnabled, IsFound, IsNotEnabled, event_for, has_started}
 use Rattle.fam_steps.proofs.Shapes.{shape_of}
-use Rattle.fam_steps.proofs.Blocked.{busy_call, idle_call, no_answer, no_program, no_crash}
+use Rattle.fam_steps.proofs.Blocked.{busy_call, idle_call, no_answer, no_program}
 
 -- calls
 

@@ -28,15 +28,15 @@ use Rattle.fam_model.specs.Programs.{Placed, has_crashed, placed, program_of, wi
 use Rattle.fam_model.specs.Rows.{item_of, item_owner}
 use Rattle.fam_model.specs.Rules.{is_due}
 use Rattle.fam_model.specs.Same.{same_answer}
-use Rattle.fam_model.specs.Step.{effect, step}
+use Rattle.fam_model.specs.Step.{effect}
 use Rattle.fam_model.specs.Turn.{is_in_turn}
 use Rattle.fam_program.specs.Parts.{is_left_piece}
-use Rattle.fam_schedule.specs.Schedule.{event_of, piece_event, loss}
+use Rattle.fam_schedule.specs.Schedule.{event_of}
 use Rattle.fam_schedule.proofs.Options.{bind_some, when_some}
 use Rattle.fam_schedule.proofs.Begins.{both_true, some_bind, some_map, some_when}
 use Rattle.fam_steps.specs.declared.step.Step.TheVariants as asked
-use Rattle.fam_steps.specs.Steps.{IsEnabled, IsFound, IsNotEnabled, piece_name}
-use Rattle.fam_steps.proofs.Blocked.{loses, no_loss, no_piece, no_program}
+use Rattle.fam_steps.specs.Steps.{IsEnabled, IsFound}
+use Rattle.fam_steps.proofs.Blocked.{loses, no_piece}
 
 -- an answer that is due may be given
 answer_same : (a : PieceAnswer) → same_answer a a ≡ true

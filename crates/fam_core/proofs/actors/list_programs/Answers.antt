@@ -11,10 +11,10 @@ loop-pe-preserved c = elim c.if-may_go.branch [
   | then-may_go+in_ok-push w ↦
       ap (λ v. map actor_of v.items) w.actors-is
       ∙ ap (map actor_of) w.in_ok-push.ensures.items
-      ∙ listed_more schedule.Program (may_go c.args.core.now) c.loop-pe.pe (map actor_of c.args.actors.now.items) c.loop-pe.actors.items (listed.Program c.loop-pe.pe) refl
+      ∙ listed_more schedule.Program (may_go c.args.player.now) c.loop-pe.pe (map actor_of c.args.actors.now.items) c.loop-pe.actors.items (listed.Program c.loop-pe.pe) refl
       (sym c.may_go.ensures ∙ w.if-may_go.true) c.loop-pe.invariant
   | else-may_go w ↦
       ap (λ v. map actor_of v.items) w.actors-is
-      ∙ listed_same schedule.Program (may_go c.args.core.now) c.loop-pe.pe (map actor_of c.args.actors.now.items) c.loop-pe.actors.items
+      ∙ listed_same schedule.Program (may_go c.args.player.now) c.loop-pe.pe (map actor_of c.args.actors.now.items) c.loop-pe.actors.items
       (sym c.may_go.ensures ∙ w.if-may_go.false) c.loop-pe.invariant
 ]

@@ -8,4 +8,4 @@ use Rattle.fam_core.proofs.actors.list_programs.Given as goal
 -- the programs below this one are listed
 abbrev pub invariant-loop-pe : goal.invariant-loop-pe
 invariant-loop-pe l =
-    map actor_of l.actors.items ≡ map actor_of l.fn.actors.items ++ map schedule.Program (filter (may_go l.core) (numbers_below l.pe))
+    map actor_of l.actors.items ≡ map actor_of l.fn.actors.items ++ map schedule.Program (filter (may_go l.player) (numbers_below l.pe))

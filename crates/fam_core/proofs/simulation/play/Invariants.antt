@@ -8,6 +8,7 @@ use Rattle.fam_core.proofs.simulation.play.Given as goal
 abbrev pub invariant-loop : goal.invariant-loop
 invariant-loop l =
     record {
-      running : IsRunning l.history.items l.core l.words;
-      after : (rows : Rows) (script : Script) (seed : ℕ) → StandsAfter rows script seed l.fn.history.items l.fn.core l.fn.words → StandsAfter rows script seed l.history.items l.core l.words;
+      running : IsRunning l.player l.words;
+      after : (rows : Rows) (script : Script) (seed : ℕ) → StandsAfter rows script seed l.fn.player.service.history l.fn.player l.fn.words →
+          StandsAfter rows script seed l.player.service.history l.player l.words;
     }
