@@ -1,5 +1,5 @@
 -- A script that is made is lawful.
-use Rattle.std.proofs.Common.{◌≡◌, ℕ, zero, suc, ◌+◌, ◌*◌, ◌/◌, ◌%◌, ◌^◌, ◌<◌, ◌≤◌, ◌⊎◌, inl, inr, Bool, true, false, List, [], ◌∷◌, ◌++◌, length, map, replicate, refl, sym, ap, ◌∙◌, arith, length-append}
+use Rattle.std.proofs.Common.{◌≡◌, ℕ, zero, suc, ◌+◌, ◌*◌, ◌/◌, ◌%◌, ◌^◌, ◌<◌, ◌≤◌, ◌⊎◌, inl, inr, Bool, true, false, List, [], ◌∷◌, ◌++◌, length, map, refl, ap, ◌∙◌, arith, length-append}
 use Rattle.std.specs.Prelude.{◌&&◌, nat_le, nat_lt, sum_by, slice_index_or, codes, pos, int_le, int_lt}
 use Rattle.std.specs.Fmt.{decimal}
 use Rattle.std.specs.List.{list_all, flat_map, range_with_len}
@@ -17,14 +17,13 @@ use Rattle.fam_model.specs.declared.call.Call.TheVariants as call
 use Rattle.fam_model.specs.declared.call.Width.TheVariants as width
 use Rattle.fam_model.specs.declared.line.Line.{Line}
 use Rattle.fam_model.specs.declared.line.Line.TheVariants as line
-use Rattle.fam_model.specs.declared.script.Statement.{Statement}
 use Rattle.fam_model.specs.declared.script.Statement.TheVariants as statement
 use Rattle.fam_model.specs.declared.script.Program.{Program}
 use Rattle.fam_model.specs.Atomic.{is_in_range}
 use Rattle.fam_model.specs.Grammar.{IsLawfulScript, is_line, is_shallow, is_within, max_count, max_nesting}
 use Rattle.fam_model.specs.Limits.{nobody}
 use Rattle.fam_model.specs.Lists.{numbers_below}
-use Rattle.fam_model.specs.ScriptText.{script_lines, program_lines, statement_lines, call_count, nesting}
+use Rattle.fam_model.specs.ScriptText.{program_lines, statement_lines, call_count, nesting}
 use Rattle.fam_model.specs.Shape.{is_name}
 use Rattle.fam_trial.specs.Generator.{kinds_of_call, made_call, made_calls, made_program, made_programs, made_script, new_item, new_region, statements_of, words_from, words_of_program}
 

@@ -1,4 +1,4 @@
-use Rattle.std.proofs.Common.{◌≡◌, ℕ, ◌+◌, ◌*◌, ◌%◌, ◌^◌, List, [], ◌∷◌, ◌++◌, length, get_or, take, refl, sym, arith}
+use Rattle.std.proofs.Common.{◌≡◌, ℕ, ◌+◌, ◌*◌, ◌%◌, ◌^◌, List, length, get_or, take, refl, sym, arith}
 use Rattle.std.proofs.lemmas.List.{take_more, length-take-le}
 use Rattle.fam_trial.specs.Trial.{item_sum}
 use Rattle.fam_trial.proofs.Sums.{sum_more, item_more}
