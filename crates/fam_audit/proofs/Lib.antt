@@ -1,0 +1,12 @@
+mod Comparing
+mod Counting
+mod Deciding
+mod Finishing
+mod Going
+mod Legality
+mod Lining
+mod Meaning
+mod Openings
+mod Owning
+mod Told
+mod Turning

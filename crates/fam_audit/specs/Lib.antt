@@ -1,0 +1,4 @@
+pub mod Auditing
+pub mod Laws
+pub mod Turns
+pub mod Verdict

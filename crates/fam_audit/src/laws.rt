@@ -1,0 +1,13 @@
+//! Laws of verdicts, each the contract of a function that does nothing.
+
+ghost use Rattle.fam_audit.specs.Laws.{LegalReportsAreOfRuns, ReportsOfRunsAreLegal};
+
+/// A report that is called legal is that of a legal run of its script, which has ended.
+pub fn legal_reports_are_of_runs()
+    ensures { LegalReportsAreOfRuns }
+{}
+
+/// The report of a legal run of its script, which has ended, is called legal.
+pub fn reports_of_runs_are_legal()
+    ensures { ReportsOfRunsAreLegal }
+{}

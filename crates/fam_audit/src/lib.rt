@@ -1,0 +1,16 @@
+//! The auditor: whether a report is that of a legal run of its script.
+#![tactic(auto)]
+
+mod asking;
+mod auditor;
+mod copying;
+mod judging;
+mod laws;
+mod lines;
+mod opening;
+mod turn;
+mod verdict;
+
+pub use judging::audit;
+pub use laws::{legal_reports_are_of_runs, reports_of_runs_are_legal};
+pub use verdict::Verdict;

@@ -1,0 +1,4 @@
+mod Lawful
+mod Lines
+mod Sums
+mod Words

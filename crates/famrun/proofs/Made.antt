@@ -1,0 +1,145 @@
+-- Every ending of `make` and of `trial` is one that their contract allows.
+use Rattle.std.proofs.Common.{◌≡◌, ℕ, ◌<◌, ◌≤◌, Bool, true, false, List, [], ◌∷◌, refl, sym, ap, ◌∙◌, arith, inl, inr, ◌⊎◌, length, subst, get_or}
+use Rattle.std.specs.Prelude.{Option, Some, None, IfSome, IfNone, MatchOption, codes, ◌≢◌, ◌^◌, nat_lt, ◌||◌, not, slice_index_or}
+use Rattle.std.specs.Fmt.{decimal}
+use Rattle.std.proofs.lemmas.Fmt.{decimal_injective}
+use Rattle.fam_base.specs.Causes.{Rose}
+use Rattle.fam_io.specs.State.{SinkState}
+use Rattle.famrun.specs.declared.ending.Ending.{Ending}
+use Rattle.famrun.specs.declared.ending.Ending.TheVariants as ending
+use Rattle.famrun.specs.declared.wanted.Wanted.{Wanted}
+use Rattle.famrun.specs.Ending.{Tells, status_of}
+use Rattle.famrun.specs.Making.{HasMade, IsMade, MadeOutcome, MakeEnds, TrialEnds, most_programs, most_calls, wanted_in}
+
+-- words
+
+-- four items
+pub four_items : {A : Type 0} → (xs : List A) (x y z w : A) → 4 ≤ length xs → length xs < 5 → x ≡ slice_index_or xs 0 x → y ≡ slice_index_or xs 1 y → z ≡ slice_index_or xs 2 z → w ≡ slice_index_or xs 3 w →
+    xs ≡ x ∷ y ∷ z ∷ w ∷ []
+four_items [] x y z w least below a b c d = absurd (omega arith)
+four_items (p ∷ []) x y z w least below a b c d = absurd (omega arith)
+four_items (p ∷ q ∷ []) x y z w least below a b c d = absurd (omega arith)
+four_items (p ∷ q ∷ r ∷ []) x y z w least below a b c d = absurd (omega arith)
+four_items (p ∷ q ∷ r ∷ s ∷ []) x y z w least below a b c d =
+    ap (λ v. v ∷ q ∷ r ∷ s ∷ []) (sym a) ∙ ap (λ v. x ∷ v ∷ r ∷ s ∷ []) (sym b) ∙ ap (λ v. x ∷ y ∷ v ∷ s ∷ []) (sym c) ∙ ap (λ v. x ∷ y ∷ z ∷ v ∷ []) (sym d)
+four_items (p ∷ q ∷ r ∷ s ∷ t ∷ rest) x y z w least below a b c d = absurd (omega arith)
+
+-- what is known of a word that was read as a number
+abbrev pub IsRead : List ℕ → Option ℕ → Type 0
+IsRead word found = IfSome found (λ n. (n < 2 ^ 64) × (word ≡ decimal n)) × IfNone found ((n : ℕ) → n < 2 ^ 64 → word ≢ decimal n)
+
+-- the numbers are in range
+in_range : (p c : ℕ) → not (nat_lt p 1 || nat_lt most_programs p || nat_lt most_calls c) ≡ true → (1 ≤ p) × (p ≤ most_programs) × (c ≤ most_calls)
+in_range p c h = (grind arith, grind arith, grind arith)
+
+out_of_range : (p c : ℕ) → not (nat_lt p 1 || nat_lt most_programs p || nat_lt most_calls c) ≡ false → 1 ≤ p → p ≤ most_programs → c ≤ most_calls → ⊥
+out_of_range p c h some few short = grind arith
+
+same_words : (n a b c x y z : List ℕ) → n ∷ a ∷ b ∷ c ∷ [] ≡ n ∷ x ∷ y ∷ z ∷ [] → (a ≡ x) × (b ≡ y) × (c ≡ z)
+same_words n a b c x y z e = (ap (λ ws. get_or ws 1 a) e, ap (λ ws. get_or ws 2 b) e, ap (λ ws. get_or ws 3 c) e)
+
+low : (n k : ℕ) → n ≤ k → k < 2 ^ 64 → n < 2 ^ 64
+low n k le lt = omega (arith, le, lt)
+
+-- the words ask for one script
+pub same_wanted : (name : List ℕ) (words : List (List ℕ)) (a b : Wanted) → HasMade name words a → HasMade name words b → a ≡ b
+same_wanted name words a b h g =
+    let same = same_words name (decimal a.seed) (decimal a.programs) (decimal a.calls) (decimal b.seed) (decimal b.programs) (decimal b.calls) (sym h.words_are ∙ g.words_are) in
+    let seeds : a.seed ≡ b.seed = decimal_injective a.seed b.seed h.seed g.seed same.0 in
+    let programs : a.programs ≡ b.programs = decimal_injective a.programs b.programs (low a.programs most_programs h.programs (omega arith)) (low b.programs most_programs g.programs (omega arith)) same.1 in
+    let calls : a.calls ≡ b.calls = decimal_injective a.calls b.calls (low a.calls most_calls h.calls (omega arith)) (low b.calls most_calls g.calls (omega arith)) same.2 in
+    λ i. record { seed = seeds i; programs = programs i; calls = calls i }
+
+-- what was found of three numbers
+pub made_told : (name : List ℕ) (words : List (List ℕ)) (s p c : List ℕ) (seed programs calls : Option ℕ) (found : Option Wanted) → words ≡ name ∷ s ∷ p ∷ c ∷ [] →
+    IsRead s seed → IsRead p programs → IsRead c calls → found ≡ wanted_in seed programs calls → MatchOption found (¬ IsMade name words) (HasMade name words)
+made_told name words s p c None programs calls found four rs rp rc is =
+    subst (λ f. MatchOption f (¬ IsMade name words) (HasMade name words)) (sym is)
+    (λ made. rs.1 made.0.seed made.1.seed (same_words name s p c (decimal made.0.seed) (decimal made.0.programs) (decimal made.0.calls) (sym four ∙ made.1.words_are)).0)
+made_told name words s p c (Some n) None calls found four rs rp rc is =
+    subst (λ f. MatchOption f (¬ IsMade name words) (HasMade name words)) (sym is)
+    (λ made. rp.1 made.0.programs (low made.0.programs most_programs made.1.programs (omega arith)) (same_words name s p c (decimal made.0.seed) (decimal made.0.programs) (decimal made.0.calls) (sym four ∙ made.1.words_are)).1)
+made_told name words s p c (Some n) (Some m) None found four rs rp rc is =
+    subst (λ f. MatchOption f (¬ IsMade name words) (HasMade name words)) (sym is)
+    (λ made. rc.1 made.0.calls (low made.0.calls most_calls made.1.calls (omega arith)) (same_words name s p c (decimal made.0.seed) (decimal made.0.programs) (decimal made.0.calls) (sym four ∙ made.1.words_are)).2)
+made_told name words s p c (Some n) (Some m) (Some k) found four rs rp rc is = by_range (not (nat_lt m 1 || nat_lt most_programs m || nat_lt most_calls k)) refl
+  where
+    by_range : (b : Bool) → not (nat_lt m 1 || nat_lt most_programs m || nat_lt most_calls k) ≡ b → MatchOption found (¬ IsMade name words) (HasMade name words)
+    by_range true e =
+        let range = in_range m k e in
+        let here : found ≡ Some (record { seed = n; programs = m; calls = k }) = is ∙ rw e refl in
+        subst (λ f. MatchOption f (¬ IsMade name words) (HasMade name words)) (sym here)
+        (record {
+          seed = rs.0.0;
+          some = range.0;
+          programs = range.1;
+          calls = range.2;
+          words_are = four ∙ ap (λ w. name ∷ w ∷ p ∷ c ∷ []) rs.0.1 ∙ ap (λ w. name ∷ decimal n ∷ w ∷ c ∷ []) rp.0.1 ∙ ap (λ w. name ∷ decimal n ∷ decimal m ∷ w ∷ []) rc.0.1;
+        })
+    by_range false e =
+        let none : found ≡ None = is ∙ rw e refl in
+        subst (λ f. MatchOption f (¬ IsMade name words) (HasMade name words)) (sym none)
+        (λ made.
+        let same = same_words name s p c (decimal made.0.seed) (decimal made.0.programs) (decimal made.0.calls) (sym four ∙ made.1.words_are) in
+        let ms : m ≡ made.0.programs = decimal_injective m made.0.programs rp.0.0 (low made.0.programs most_programs made.1.programs (omega arith)) (sym rp.0.1 ∙ same.1) in
+        let ks : k ≡ made.0.calls = decimal_injective k made.0.calls rc.0.0 (low made.0.calls most_calls made.1.calls (omega arith)) (sym rc.0.1 ∙ same.2) in
+        let some = made.1.some in
+        let few = made.1.programs in
+        let short = made.1.calls in
+        out_of_range m k e (omega (arith, ms, some)) (omega (arith, ms, few)) (omega (arith, ks, short)))
+
+-- endings
+
+-- the statuses of these commands
+abbrev pub IsOne : SinkState → SinkState → ℕ → Type 0
+IsOne before after status = (status ≡ 0) ⊎ ((status ≡ 5) × Rose before.faults after.faults) ⊎ (status ≡ 9)
+
+pub make_one : (wanted : Wanted) (before after : SinkState) (e : Ending) → MakeEnds wanted before after e → IsOne before after (status_of e)
+make_one wanted before after ending.Told ends = inl refl
+make_one wanted before after ending.WriteFault ends = inr (inl (refl, ends.1))
+make_one wanted before after ending.NoMemory ends = inr (inr refl)
+make_one wanted before after ending.BadWords ends = absurd ends
+make_one wanted before after (ending.BadLine n) ends = absurd ends
+make_one wanted before after ending.ReadFault ends = absurd ends
+make_one wanted before after ending.TooLong ends = absurd ends
+
+pub trial_one : (wanted : Wanted) (before after : SinkState) (e : Ending) → TrialEnds wanted before after e → IsOne before after (status_of e)
+trial_one wanted before after ending.Told ends = inl refl
+trial_one wanted before after ending.WriteFault (line, trial, front, rose) = inr (inl (refl, rose))
+trial_one wanted before after ending.NoMemory ends = inr (inr refl)
+trial_one wanted before after ending.BadWords ends = absurd ends
+trial_one wanted before after (ending.BadLine n) ends = absurd ends
+trial_one wanted before after ending.ReadFault ends = absurd ends
+trial_one wanted before after ending.TooLong ends = absurd ends
+
+-- the words were refused
+pub made_refused : (name : List ℕ) (Ends : Wanted → SinkState → SinkState → Ending → Type 0) (words : List (List ℕ)) (before after : SinkState) (status : ℕ) → ¬ IsMade name words → status ≡ 2 →
+    Tells before after (codes "bad words\n") → MadeOutcome name Ends words before after status
+made_refused name Ends words before after status other two told =
+    record {
+      bad_words = (λ e. other, λ e. two);
+      refused = λ e. told;
+      ends = λ wanted made. absurd (other (wanted, made));
+      complete = λ made. absurd (other made);
+    }
+
+-- the words were those of the command
+pub made_out : (name : List ℕ) (Ends : Wanted → SinkState → SinkState → Ending → Type 0) (words : List (List ℕ)) (wanted : Wanted) (before after : SinkState) (status : ℕ) (e : Ending) →
+    HasMade name words wanted → status ≡ status_of e → Ends wanted before after e → IsOne before after (status_of e) → MadeOutcome name Ends words before after status
+made_out name Ends words wanted before after status e made is ends one =
+    record {
+      bad_words = (λ two. absurd (not_two one (sym is ∙ two)), λ other. absurd (other (wanted, made)));
+      refused = λ other. absurd (other (wanted, made));
+      ends = λ w m. (e, is, subst (λ x. Ends x before after e) (same_wanted name words wanted w made m) ends);
+      complete = λ m calm. subst (λ n. (n ≡ 0) ⊎ (n ≡ 9)) (sym is) (calm_one calm one);
+    }
+  where
+    not_two : IsOne before after (status_of e) → status_of e ≡ 2 → ⊥
+    not_two (inl zero) two = omega (arith, zero, two)
+    not_two (inr (inl (five, rose))) two = omega (arith, five, two)
+    not_two (inr (inr nine)) two = omega (arith, nine, two)
+
+    calm_one : ¬ Rose before.faults after.faults → IsOne before after (status_of e) → (status_of e ≡ 0) ⊎ (status_of e ≡ 9)
+    calm_one calm (inl zero) = inl zero
+    calm_one calm (inr (inl (five, rose))) = absurd (calm rose)
+    calm_one calm (inr (inr nine)) = inr nine
