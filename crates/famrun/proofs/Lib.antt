@@ -1,3 +1,4 @@
 pub mod Outcomes
 pub mod Patterns
 pub mod Runs
+pub mod Made

@@ -47,6 +47,7 @@ fn wrong(kind: Kind) -> &'static [&'static str] {
 }
 
 const NAME_64: &str = "abcdefghijklmnopqrstuvwxyzabcdefghijklmnopqrstuvwxyz0123456789.-";
+
 const NAME_65: &str = "abcdefghijklmnopqrstuvwxyzabcdefghijklmnopqrstuvwxyz0123456789.-_";
 
 type Word = (Kind, &'static str);
@@ -75,12 +76,7 @@ const STATEMENTS: [&[Word]; 34] = [
     ],
     &[(Keyword, "dealloc"), (Item, "i1")],
     &[(Keyword, "chmod"), (Item, "i1"), (Mode, "700")],
-    &[
-        (Keyword, "lookup"),
-        (Item, "i1"),
-        (Name, "a"),
-        (Name, "b"),
-    ],
+    &[(Keyword, "lookup"), (Item, "i1"), (Name, "a"), (Name, "b")],
     &[(Keyword, "stat"), (Item, "i1")],
     &[(Keyword, "open"), (Context, "c1")],
     &[(Keyword, "close"), (Context, "c1")],
@@ -225,12 +221,7 @@ const STATEMENTS: [&[Word]; 34] = [
 ];
 
 /// The script of a program with this statement, where the word at a place is another one.
-fn script_with(
-    alloc: Global,
-    words: &[Word],
-    place: usize,
-    other: &str,
-) -> Result<String, Fail> {
+fn script_with(alloc: Global, words: &[Word], place: usize, other: &str) -> Result<String, Fail> {
     let mut text = String::from_str(alloc, "service 1 1 64\npe 5 5\n")?;
     for (at, (_, word)) in words.iter().enumerate() {
         if at > 0 {

@@ -5,7 +5,7 @@ ghost use Rattle.famrun.specs.Making.{MakeEnds, MadeOutcome};
 
 use crate::ending::Ending;
 use crate::sim::{tell, write_report};
-use crate::wanted::{Wanted, wanted};
+use crate::wanted::{Wanted, asked_for};
 use fam_io::Sink;
 use fam_trial::made;
 use std::alloc::Global;
@@ -26,7 +26,7 @@ fn make<K: Sink>(alloc: Global, wanted: Wanted, output: &mut K) -> Ending
 pub fn make_main<K: Sink>(alloc: Global, words: &[String], output: &mut K) -> u8
     ensures { MadeOutcome (codes "make") MakeEnds (map string_bytes words.now) (K.sink output.old) (K.sink output.new) result }
 {
-    let Some(wanted) = wanted(words, "make") else {
+    let Some(wanted) = asked_for(words, "make") else {
         tell(output, b"bad words\n");
         return Ending::BadWords.status();
     };

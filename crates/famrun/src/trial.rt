@@ -5,7 +5,7 @@ ghost use Rattle.famrun.specs.Making.{IsTrial, MadeOutcome, TrialEnds};
 
 use crate::ending::Ending;
 use crate::sim::{tell, write_report};
-use crate::wanted::{Wanted, wanted};
+use crate::wanted::{Wanted, asked_for};
 use fam_base::NoMemory;
 use fam_core::play_script;
 use fam_io::Sink;
@@ -51,7 +51,7 @@ fn try_out<K: Sink>(alloc: Global, wanted: Wanted, output: &mut K) -> Ending
 pub fn trial_main<K: Sink>(alloc: Global, words: &[String], output: &mut K) -> u8
     ensures { MadeOutcome (codes "trial") TrialEnds (map string_bytes words.now) (K.sink output.old) (K.sink output.new) result }
 {
-    let Some(wanted) = wanted(words, "trial") else {
+    let Some(wanted) = asked_for(words, "trial") else {
         tell(output, b"bad words\n");
         return Ending::BadWords.status();
     };

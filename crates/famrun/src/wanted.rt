@@ -31,7 +31,7 @@ fn in_range(seed: Option<u64>, programs: Option<u64>, calls: Option<u64>) -> Opt
 }
 
 /// The script that is asked for, where the words are those of this command.
-pub fn wanted(words: &[String], name: &str) -> Option<Wanted>
+pub fn asked_for(words: &[String], name: &str) -> Option<Wanted>
     ensures { MatchOption result (¬ IsMade name.now (map string_bytes words.now)) (HasMade name.now (map string_bytes words.now)) }
 {
     match words {
