@@ -1,0 +1,4 @@
+pub mod CallWords
+pub mod Calls
+pub mod Replies
+pub mod Words
