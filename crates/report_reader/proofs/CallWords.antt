@@ -26,7 +26,7 @@ use Rattle.fam_script.proofs.WordsBack.{is_printed, IsLow, low_of, decimal_print
 use Rattle.report_reader.specs.EventForm.{is_call_told}
 use Rattle.report_reader.specs.Reading.{call_size}
 use Rattle.report_reader.proofs.Words.{both}
-use Rattle.report_reader.proofs.Replies.{HasWord, name_is_printed}
+use Rattle.report_reader.proofs.RepliesBack.{HasWord, name_is_printed}
 
 slot_below : (s : ℕ) → is_slot s ≡ true → s < 16
 slot_below s e = ltb-true s 16 e

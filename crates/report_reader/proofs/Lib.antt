@@ -1,4 +1,13 @@
 pub mod CallWords
-pub mod Calls
-pub mod Replies
+pub mod CallsBack
+pub mod Cutting
+pub mod EventsBack
+pub mod Lists
+pub mod Numbers
+pub mod Openings
+pub mod RepliesBack
+pub mod ResultsRead
+pub mod RowsBack
+pub mod Same
+pub mod Steps
 pub mod Words

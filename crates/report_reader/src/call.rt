@@ -1,6 +1,6 @@
 //! The text of a call, which stands in front of other words.
 
-ghost use Rattle.std.specs.Prelude.{◌≡◌, ◌++◌, ◌∷◌, ◌≤◌, [], drop, take, true, None, Some, IfOk, IfSome, MatchOption};
+ghost use Rattle.std.specs.Prelude.{◌≡◌, ℕ, List, ◌++◌, ◌∷◌, ◌≤◌, [], drop, take, true, None, Some, IfOk, IfSome, MatchOption};
 ghost use Rattle.std.specs.List.{flat_map};
 ghost use Rattle.fam_model.specs.Words.{words_text};
 ghost use Rattle.fam_script.specs.Reading.{parts};
@@ -180,10 +180,20 @@ fn behind(text: &[u8], count: usize) -> Option<&[u8]>
 {
     let mut rest = text;
     for _ in 0..count {
-        let (_, others) = cut(rest, b' ')?;
+        let Some((_, others)) = cut(rest, b' ') else {
+            return None;
+        };
         rest = others;
     }
     Some(rest)
+}
+
+/// What stands in front of a rest and the byte before it.
+fn in_front<'a>(text: &'a [u8], rest: &[u8]) -> &'a [u8]
+    ensures { (front : List ℕ) → text.now ≡ front ++ 32 ∷ rest.now → result.now ≡ front }
+{
+    let length = text.len().saturating_sub(rest.len());
+    &text[..length.saturating_sub(1)]
 }
 
 /// The text of so many words, and what stands behind it.
@@ -193,8 +203,10 @@ fn cut_behind(text: &[u8], count: usize) -> Option<(&[u8], &[u8])>
         (λ p. (parts 32 p.1.now ≡ drop count (parts 32 text.now))
             × (p.0.now ≡ words_text (take count (parts 32 text.now)))) }
 {
-    let rest = behind(text, count)?;
-    Some((&text[..text.len() - rest.len() - 1], rest))
+    let Some(rest) = behind(text, count) else {
+        return None;
+    };
+    Some((in_front(text, rest), rest))
 }
 
 /// How many words an atomic has, of which these are the words behind its first one.

@@ -17,7 +17,7 @@ fn number_fits(number: u64)
     ensures { values.is_u64 number ≡ true }
 {}
 
-fn small_fits(number: u32)
+pub fn small_fits(number: u32)
     ensures { values.is_u32 number ≡ true }
 {}
 

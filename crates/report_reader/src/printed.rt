@@ -8,6 +8,7 @@ ghost use Rattle.fam_model.specs.ReportText.{item_text, region_text, reply_line_
 ghost use Rattle.report_reader.specs.Reading.{is_shown_item, is_shown_region, no_lines};
 
 use crate::call::only;
+use crate::fits::small_fits;
 use fam_base::{NoMemory, Sequence};
 use fam_model::{Event, ItemRow, RegionRow, ReplyLine, Report, Rows};
 use fam_text::text_of;
@@ -85,6 +86,7 @@ pub fn is_region(alloc: Global, row: RegionRow, text: &[u8]) -> Result<Option<Re
     if row.number.0 == 0 {
         return Ok(None);
     }
+    small_fits(row.gid);
     let mut report = empty_report(alloc);
     report.rows.regions.push(row)?;
     let front = "replies\nopening 0 0\n";
@@ -103,6 +105,7 @@ pub fn is_item(alloc: Global, row: ItemRow, text: &[u8]) -> Result<Option<ItemRo
     if row.number.0 == 0 {
         return Ok(None);
     }
+    small_fits(row.gid);
     let mut report = empty_report(alloc);
     report.rows.items.push(row)?;
     let front = "replies\nopening 0 0\n";
