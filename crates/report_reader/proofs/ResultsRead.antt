@@ -55,7 +55,10 @@ module _ (found : List OpResult) (rest : List ℕ) (last : parts 32 rest ≡ res
   ends_badly e = read_last None e
 
 -- there is always a word
-pub some_are : (text : List ℕ) → some_results (parts 32 text) ≡ (results_of (parts 32 text) >>= λ results. Some (reply.Report results))
+some_are : (text : List ℕ) → some_results (parts 32 text) ≡ (results_of (parts 32 text) >>= λ results. Some (reply.Report results))
 some_are text =
     let more = first_part 32 text in
     ap some_results more.2 ∙ ap (λ (ws : Words). results_of ws >>= λ results. some_report results) (sym more.2)
+
+pub some_from : (text : List ℕ) (o : Option (List OpResult)) (results : List OpResult) → o ≡ results_of (parts 32 text) → o ≡ Some results → some_report results ≡ some_results (parts 32 text)
+some_from text o results e is = sym (some_are text ∙ ap (λ (o : Option (List OpResult)). o >>= λ rs. some_report rs) (sym e ∙ is))

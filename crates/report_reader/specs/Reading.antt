@@ -603,9 +603,18 @@ abbrev pub events_of : List ℕ → Option ℕ
 events_of text =
     two_of (parts 32 text) >>= λ w. number_of w.1 >>= λ n. when (bytes_eq (events_text n) text) n
 
--- a report without lines of its own, with which the text of one line is compared
+-- reports with one line of their own, with which the text of a line is compared
 abbrev pub no_rows : Rows
 no_rows = record { regions = []; items = []; next_region = 0; next_item = 0 }
 
-abbrev pub no_lines : Report
-no_lines = record { replies = []; rows = no_rows; history = [] }
+abbrev pub reply_report : ReplyLine → Report
+reply_report told = record { replies = told ∷ []; rows = no_rows; history = [] }
+
+abbrev pub event_report : Event → Report
+event_report event = record { replies = []; rows = no_rows; history = event ∷ [] }
+
+abbrev pub region_report : RegionRow → Report
+region_report row = record { replies = []; rows = record no_rows { regions = row ∷ [] }; history = [] }
+
+abbrev pub item_report : ItemRow → Report
+item_report row = record { replies = []; rows = record no_rows { items = row ∷ [] }; history = [] }

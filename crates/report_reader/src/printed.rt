@@ -5,7 +5,7 @@ ghost use Rattle.std.specs.Str.{bytes_eq};
 ghost use Rattle.fam_model.specs.EventText.{event_text};
 ghost use Rattle.fam_model.specs.Lists.{when};
 ghost use Rattle.fam_model.specs.ReportText.{item_text, region_text, reply_line_text, report_text};
-ghost use Rattle.report_reader.specs.Reading.{is_shown_item, is_shown_region, no_lines};
+ghost use Rattle.report_reader.specs.Reading as words;
 
 use crate::call::only;
 use crate::fits::small_fits;
@@ -14,20 +14,63 @@ use fam_model::{Event, ItemRow, RegionRow, ReplyLine, Report, Rows};
 use fam_text::text_of;
 use std::alloc::Global;
 
-/// A report without lines of its own.
-fn empty_report(alloc: Global) -> Report
-    ensures { result ≡ no_lines }
+fn no_rows(alloc: Global) -> Rows
+    ensures { result ≡ words.no_rows }
 {
-    Report {
-        replies: Sequence::new(alloc),
-        rows: Rows {
-            regions: Sequence::new(alloc),
-            items: Sequence::new(alloc),
-            next_region: 0,
-            next_item: 0,
-        },
-        history: Sequence::new(alloc),
+    Rows {
+        regions: Sequence::new(alloc),
+        items: Sequence::new(alloc),
+        next_region: 0,
+        next_item: 0,
     }
+}
+
+fn reply_report(alloc: Global, told: ReplyLine) -> Result<Report, NoMemory>
+    ensures { IfOk result (λ report. report ≡ words.reply_report told) }
+{
+    let mut replies = Sequence::new(alloc);
+    replies.push(told)?;
+    Ok(Report {
+        replies,
+        rows: no_rows(alloc),
+        history: Sequence::new(alloc),
+    })
+}
+
+fn event_report(alloc: Global, event: Event) -> Result<Report, NoMemory>
+    ensures { IfOk result (λ report. report ≡ words.event_report event) }
+{
+    let mut history = Sequence::new(alloc);
+    history.push(event)?;
+    Ok(Report {
+        replies: Sequence::new(alloc),
+        rows: no_rows(alloc),
+        history,
+    })
+}
+
+fn region_report(alloc: Global, row: RegionRow) -> Result<Report, NoMemory>
+    ensures { IfOk result (λ report. report ≡ words.region_report row) }
+{
+    let mut rows = no_rows(alloc);
+    rows.regions.push(row)?;
+    Ok(Report {
+        replies: Sequence::new(alloc),
+        rows,
+        history: Sequence::new(alloc),
+    })
+}
+
+fn item_report(alloc: Global, row: ItemRow) -> Result<Report, NoMemory>
+    ensures { IfOk result (λ report. report ≡ words.item_report row) }
+{
+    let mut rows = no_rows(alloc);
+    rows.items.push(row)?;
+    Ok(Report {
+        replies: Sequence::new(alloc),
+        rows,
+        history: Sequence::new(alloc),
+    })
 }
 
 /// Whether the text of a report is these three, one behind the other.
@@ -55,8 +98,7 @@ pub fn is_reply_line(
 ) -> Result<Option<ReplyLine>, NoMemory>
     ensures { IfOk result (λ kept. kept ≡ when (bytes_eq (reply_line_text told) text.now) told) }
 {
-    let mut report = empty_report(alloc);
-    report.replies.push(told)?;
+    let report = reply_report(alloc, told)?;
     let behind = "\nopening 0 0\nevents 0\ndone\n";
     if is_text_of(alloc, &report, "replies\n", text, behind)? {
         Ok(only(report.replies))
@@ -69,8 +111,7 @@ pub fn is_reply_line(
 pub fn is_event(alloc: Global, event: Event, text: &[u8]) -> Result<Option<Event>, NoMemory>
     ensures { IfOk result (λ kept. kept ≡ when (bytes_eq (event_text event) text.now) event) }
 {
-    let mut report = empty_report(alloc);
-    report.history.push(event)?;
+    let report = event_report(alloc, event)?;
     let front = "replies\nopening 0 0\nevents 1\n";
     if is_text_of(alloc, &report, front, text, "\ndone\n")? {
         Ok(only(report.history))
@@ -81,14 +122,13 @@ pub fn is_event(alloc: Global, event: Event, text: &[u8]) -> Result<Option<Event
 
 /// The region's row, if it is shown and this is its text.
 pub fn is_region(alloc: Global, row: RegionRow, text: &[u8]) -> Result<Option<RegionRow>, NoMemory>
-    ensures { IfOk result (λ kept. kept ≡ when (is_shown_region row && bytes_eq (region_text row) text.now) row) }
+    ensures { IfOk result (λ kept. kept ≡ when (words.is_shown_region row && bytes_eq (region_text row) text.now) row) }
 {
     if row.number.0 == 0 {
         return Ok(None);
     }
     small_fits(row.gid);
-    let mut report = empty_report(alloc);
-    report.rows.regions.push(row)?;
+    let report = region_report(alloc, row)?;
     let front = "replies\nopening 0 0\n";
     if is_text_of(alloc, &report, front, text, "\nevents 0\ndone\n")? {
         let rows = report.rows;
@@ -100,14 +140,13 @@ pub fn is_region(alloc: Global, row: RegionRow, text: &[u8]) -> Result<Option<Re
 
 /// The item's row, if it is shown and this is its text.
 pub fn is_item(alloc: Global, row: ItemRow, text: &[u8]) -> Result<Option<ItemRow>, NoMemory>
-    ensures { IfOk result (λ kept. kept ≡ when (is_shown_item row && bytes_eq (item_text row) text.now) row) }
+    ensures { IfOk result (λ kept. kept ≡ when (words.is_shown_item row && bytes_eq (item_text row) text.now) row) }
 {
     if row.number.0 == 0 {
         return Ok(None);
     }
     small_fits(row.gid);
-    let mut report = empty_report(alloc);
-    report.rows.items.push(row)?;
+    let report = item_report(alloc, row)?;
     let front = "replies\nopening 0 0\n";
     if is_text_of(alloc, &report, front, text, "\nevents 0\ndone\n")? {
         let rows = report.rows;
