@@ -1,9 +1,9 @@
 -- The words of each call that can be told are printed, and their number is the one that the first of them asks for.
-use Rattle.std.proofs.Common.{◌≡◌, ℕ, ◌*◌, ◌<◌, ◌≤◌, ◌^◌, Bool, true, false, not, List, [], ◌∷◌, ◌++◌, length, refl, arith, lit≤, lt_of_lt_of_le}
-use Rattle.std.specs.Prelude.{◌==◌, ◌&&◌, nat_le, codes, ℤ}
+use Rattle.std.proofs.Common.{◌≡◌, ℕ, ◌*◌, ◌<◌, ◌≤◌, Bool, true, false, List, [], ◌∷◌, ◌++◌, length, refl, lit≤, lt_of_lt_of_le}
+use Rattle.std.specs.Prelude.{◌==◌, ◌&&◌, ℤ}
 use Rattle.std.specs.List.{list_all}
 use Rattle.std.specs.Bool.{beq}
-use Rattle.std.specs.Fmt.{decimal, signed_decimal}
+use Rattle.std.specs.Fmt.{signed_decimal}
 use Rattle.std.proofs.lemmas.Bool.{leb-true, ltb-true}
 use Rattle.fam_model.specs.declared.call.Width.{Width}
 use Rattle.fam_model.specs.declared.call.Width.TheVariants.{I32, U32, I64, U64, I128, F32, F64}
@@ -19,9 +19,8 @@ use Rattle.fam_model.specs.Atomic.{is_fetching, is_in_range}
 use Rattle.fam_model.specs.CallText.{width_word, op_word, argument_words, meta_words, data_words, call_words, has_text}
 use Rattle.fam_model.specs.Shape.{is_slot, is_context, is_name, is_shaped, is_zero, is_short, are_few, has_arguments}
 use Rattle.fam_model.specs.Values.{is_u64, is_mode, are_bytes, call_fits, call_numbers, call_modes, call_bytes}
-use Rattle.fam_model.specs.Words.{hex_text, list_text, mode_text, region_slot_text, item_slot_text, context_text}
 use Rattle.fam_script.specs.Reading.{Words}
-use Rattle.fam_script.proofs.Tests.{and_left, and_right, and_both}
+use Rattle.fam_script.proofs.Tests.{and_left, and_right}
 use Rattle.fam_script.proofs.WordsBack.{is_printed, IsLow, low_of, decimal_printed, mode_printed, hex_printed, list_printed, signed_printed, in_range_narrow}
 use Rattle.report_reader.specs.EventForm.{is_call_told}
 use Rattle.report_reader.specs.Reading.{call_size}
@@ -66,7 +65,6 @@ head_of p x xs e = and_left (p x) (list_all p xs) e
 tail_of : {A : Type 0} (p : A → Bool) (x : A) (xs : List A) → list_all p (x ∷ xs) ≡ true → list_all p xs ≡ true
 tail_of p x xs e = and_right (p x) (list_all p xs) e
 
-
 width_printed : (w : Width) → is_printed (width_word w) ≡ true
 width_printed I32 = refl
 width_printed U32 = refl
@@ -95,8 +93,6 @@ op_printed FetchOr = refl
 op_printed FetchXor = refl
 op_printed Swap = refl
 op_printed Cas = refl
-
-
 
 one_printed : (width : Width) (a : ℤ) → is_in_range width a ≡ true → list_all is_printed (signed_decimal a ∷ []) ≡ true
 one_printed width a e = both (signed_printed a (in_range_narrow width a e)) refl

@@ -1,6 +1,6 @@
 -- A call is read back from its text, as the one statement of a script.
-use Rattle.std.proofs.Common.{◌≡◌, ℕ, ◌≤◌, Bool, true, List, [], ◌∷◌, ◌++◌, length, map, Option, Some, None, Result, Ok, Err, refl, sym, ap, ◌∙◌, append_assoc, arith}
-use Rattle.std.specs.Prelude.{codes, ◌&&◌, MatchOption, IfSome}
+use Rattle.std.proofs.Common.{◌≡◌, ℕ, true, List, [], ◌∷◌, ◌++◌, map, Option, Some, None, Result, Ok, Err, refl, sym, ap, ◌∙◌, append_assoc, arith}
+use Rattle.std.specs.Prelude.{codes, IfSome}
 use Rattle.std.specs.List.{list_all}
 use Rattle.std.specs.Fmt.{digits}
 use Rattle.fam_model.specs.declared.call.Call.{Call}
@@ -13,16 +13,15 @@ use Rattle.fam_model.specs.CallText.{call_text}
 use Rattle.fam_model.specs.Grammar.{is_line, IsLawfulScript, IsScript}
 use Rattle.fam_model.specs.Lists.{◌>>=◌}
 use Rattle.fam_model.specs.ScriptText.{line_text, script_lines, script_text}
-use Rattle.fam_model.specs.Words.{text_of}
 use Rattle.fam_script.specs.BadLine.{whole_lines, IsBadLine}
-use Rattle.fam_script.specs.Machine.{Reading, Nothing, Between, Inside, Whole, read}
+use Rattle.fam_script.specs.Machine.{Reading, Whole, read}
 use Rattle.fam_script.specs.Parsing.{parse_of}
 use Rattle.fam_script.specs.Reading.{line_of}
 use Rattle.fam_script.proofs.LinesBack.{line_reader}
 use Rattle.fam_script.proofs.Parsed.{parsed_script, parsed_bad}
 use Rattle.fam_script.proofs.Runs.{lawful_is_read}
 use Rattle.fam_script.proofs.Splits.{lacks, whole_lines_back}
-use Rattle.fam_script.proofs.Tests.{and_left, and_right, and_both, some_is}
+use Rattle.fam_script.proofs.Tests.{and_left, and_right, some_is}
 use Rattle.report_reader.specs.EventForm.{is_call_told}
 use Rattle.report_reader.specs.Reading.{script_around, only, one_call, script_call, call_in, call_of}
 use Rattle.report_reader.proofs.Words.{both}

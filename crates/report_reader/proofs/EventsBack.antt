@@ -1,5 +1,5 @@
 -- Each event is read back from its text.
-use Rattle.std.proofs.Common.{◌≡◌, ℕ, suc, ◌<◌, ◌≤◌, ◌^◌, Bool, true, false, not, cond, List, [], ◌∷◌, ◌++◌, length, take, drop, Option, Some, None, refl, sym, ap, ◌∙◌, arith, lit≤, lt_of_lt_of_le}
+use Rattle.std.proofs.Common.{◌≡◌, ℕ, suc, ◌<◌, Bool, true, false, not, cond, List, [], ◌∷◌, ◌++◌, length, take, drop, Option, Some, None, refl, sym, ap, ◌∙◌, arith, lit≤, lt_of_lt_of_le}
 use Rattle.std.specs.Prelude.{◌==◌, ◌&&◌, ◌||◌, codes}
 use Rattle.std.specs.List.{list_all}
 use Rattle.std.specs.Str.{bytes_eq}
@@ -12,7 +12,6 @@ use Rattle.fam_base.specs.declared.error.FamError.TheVariants as error
 use Rattle.fam_base.specs.declared.naming.PeId.{PeId}
 use Rattle.fam_model.specs.declared.call.Call.{Call}
 use Rattle.fam_model.specs.declared.call.Call.TheVariants as call
-use Rattle.fam_model.specs.declared.call.MetaCall.{MetaCall}
 use Rattle.fam_model.specs.declared.event.Event.{Event}
 use Rattle.fam_model.specs.declared.event.What.{What}
 use Rattle.fam_model.specs.declared.event.What.TheVariants as what
@@ -25,15 +24,15 @@ use Rattle.fam_model.specs.ReplyText.{error_words, answer_words, reply_words}
 use Rattle.fam_model.specs.Shape.{is_context}
 use Rattle.fam_model.specs.Values.{is_u32, is_u64, error_fits, answer_fits, reply_fits}
 use Rattle.fam_model.specs.Words.{context_text, words_text}
-use Rattle.fam_script.specs.Reading.{Words, parts, one_of, slot_of, or_else}
+use Rattle.fam_script.specs.Reading.{Words, parts, slot_of, or_else}
 use Rattle.fam_script.proofs.Splits.{lacks}
 use Rattle.fam_script.proofs.Tests.{and_left, and_right, and_both, all_both, bind_some, when_some, when_true, same_bytes, bytes_same}
-use Rattle.fam_script.proofs.WordsBack.{is_printed, IsLow, byte_back, slot_of-cons, decimal_printed}
+use Rattle.fam_script.proofs.WordsBack.{is_printed, byte_back, slot_of-cons, decimal_printed}
 use Rattle.report_reader.specs.EventForm.{is_call_told, is_issue_reply, is_disk_fault, what_fits, event_fits}
-use Rattle.report_reader.specs.Reading.{reply_of, Doubted, CallInFront, call_of, call_before, call_in_front, behind_colon, call_size, meta_from, issue_from, refused_from, doubted_of, refusal_of, piece_from, close_from, quiet_from, wait_from, bare_what, call_what, piece_what, context_what, spoken_what, what_of, event_from, loose_event, event_of}
+use Rattle.report_reader.specs.Reading.{reply_of, Doubted, CallInFront, call_of, call_before, call_in_front, behind_colon, meta_from, issue_from, refused_from, doubted_of, refusal_of, piece_from, close_from, quiet_from, wait_from, bare_what, spoken_what, what_of, event_from, loose_event, event_of}
 use Rattle.report_reader.proofs.Words.{both, all_printed, name_back, name_printed, words_back, words_lack_feed}
 use Rattle.report_reader.proofs.RepliesBack.{HasWord, not_one, number_is, small_is, u64_printed, u32_printed, error_back, error_plain, answer_back, answer_plain, reply_back, reply_printed}
-use Rattle.report_reader.proofs.CallWords.{IsSized, call_printed, call_sized}
+use Rattle.report_reader.proofs.CallWords.{call_printed, call_sized}
 use Rattle.report_reader.proofs.CallsBack.{call_back}
 
 -- contexts
@@ -271,10 +270,13 @@ what_printed (what.Refused asked e d) h =
 module _ (event : Event) (h : event_fits event ≡ true) where
   numbers : (is_u32 event.pe.0 && is_u64 event.call) ≡ true
   numbers = and_left (is_u32 event.pe.0 && is_u64 event.call) (what_fits event.what) h
+
   pe-fits : is_u32 event.pe.0 ≡ true
   pe-fits = and_left (is_u32 event.pe.0) (is_u64 event.call) numbers
+
   call-fits : is_u64 event.call ≡ true
   call-fits = and_right (is_u32 event.pe.0) (is_u64 event.call) numbers
+
   happened-fits : what_fits event.what ≡ true
   happened-fits = and_right (is_u32 event.pe.0 && is_u64 event.call) (what_fits event.what) h
 
@@ -300,8 +302,7 @@ module _ (event : Event) (h : event_fits event ≡ true) where
 pub event_takes : (text : List ℕ) (event : Event) → event_of text ≡ Some event → (event_fits event ≡ true) × (text ≡ event_text event)
 event_takes text event e =
     let b = bind_some (loose_event (parts 32 text)) (λ found. when (event_fits found && bytes_eq (event_text found) text) found) event e in
-    let w = when_some (event_fits b.0 && bytes_eq (event_text b.0) text) b.0 event b.2 in
-    (
+    let w = when_some (event_fits b.0 && bytes_eq (event_text b.0) text) b.0 event b.2 in (
       ap event_fits (sym w.1) ∙ and_left (event_fits b.0) (bytes_eq (event_text b.0) text) w.0,
       sym (same_bytes (event_text b.0) text (and_right (event_fits b.0) (bytes_eq (event_text b.0) text) w.0)) ∙ ap event_text w.1,
     )

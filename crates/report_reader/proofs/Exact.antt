@@ -6,9 +6,9 @@ use Rattle.std.proofs.lemmas.List.{append-nil, take-append-drop, take-take}
 use Rattle.std.proofs.Math.Seq.{take-length}
 use Rattle.fam_model.specs.declared.report.Report.{Report}
 use Rattle.fam_model.specs.Lists.{◌>>=◌}
-use Rattle.fam_model.specs.ReportText.{report_lines, report_text}
+use Rattle.fam_model.specs.ReportText.{report_lines}
 use Rattle.fam_model.specs.Words.{text_of}
-use Rattle.fam_script.specs.BadLine.{whole_lines, BeginsAt, IsFirstBadLine}
+use Rattle.fam_script.specs.BadLine.{whole_lines, IsFirstBadLine}
 use Rattle.fam_script.specs.Parsing.{rest_of}
 use Rattle.fam_script.proofs.Splits.{whole_lines_back, rest_back, bytes_are}
 use Rattle.fam_script.proofs.Tests.{bind_some, some_is}

@@ -1,14 +1,13 @@
 -- The rows of a lawful opening are read one after another.
-use Rattle.std.proofs.Common.{◌≡◌, ◌≢◌, ◌⊎◌, inl, inr, ℕ, suc, ◌+◌, ◌*◌, ◌%◌, ◌^◌, ◌<◌, ◌≤◌, Bool, true, false, List, [], ◌∷◌, ◌++◌, length, get_or, map, Option, Some, None, is_none, refl, sym, ap, subst, ◌∙◌, append_assoc, arith, lit≤, lit<, lt_of_lt_of_le}
+use Rattle.std.proofs.Common.{◌≡◌, ◌≢◌, ◌⊎◌, inl, inr, ℕ, ◌+◌, ◌%◌, ◌^◌, ◌<◌, ◌≤◌, Bool, true, false, List, [], ◌∷◌, ◌++◌, length, get_or, map, Option, Some, is_none, refl, sym, ap, subst, ◌∙◌, append_assoc, arith, lit≤, lt_of_lt_of_le}
 use Rattle.std.specs.Prelude.{◌==◌, ◌&&◌, ◌||◌, nat_le, nat_lt, AllPairs}
-use Rattle.std.specs.List.{list_all, filter, find, sum_by}
+use Rattle.std.specs.List.{list_all, find, sum_by}
 use Rattle.std.specs.Str.{bytes_eq}
 use Rattle.std.proofs.lemmas.Bool.{le-leb, lt-ltb, eq-eqb, eqb-true}
 use Rattle.std.proofs.lemmas.List.{append-nil, length-append}
 use Rattle.std.proofs.lemmas.List.Sums.{sum_by-append, sum_by-cons}
 use Rattle.std.proofs.lemmas.Slice.Eq.{bytes_eq-Decides}
 use Rattle.fam_base.specs.Name.{is_good_name}
-use Rattle.fam_base.specs.declared.naming.RegionId.{RegionId}
 use Rattle.fam_model.specs.declared.change.Change.TheVariants as change
 use Rattle.fam_model.specs.declared.report.ReplyLine.{ReplyLine}
 use Rattle.fam_model.specs.declared.rows.ItemRow.{ItemRow}
@@ -17,9 +16,9 @@ use Rattle.fam_model.specs.declared.rows.Rows.{Rows}
 use Rattle.fam_model.specs.Directory.{after}
 use Rattle.fam_model.specs.Lawful.{is_lawful_change, is_good_row, is_next_number}
 use Rattle.fam_model.specs.Limits.{max_region_size, max_total_size, max_regions, max_items, number_end, nobody}
-use Rattle.fam_model.specs.Lists.{◌>>=◌, when, is_some_and}
+use Rattle.fam_model.specs.Lists.{◌>>=◌, is_some_and}
 use Rattle.fam_model.specs.ReportText.{region_text, item_text}
-use Rattle.fam_model.specs.Rows.{IsLawful, IsLawfulRegion, IsLawfulItem, AreApart, common_region, common_item, region_number, item_number, region_of, region_named, item_named, items_in, total_size, room, room_end, is_beside, fits}
+use Rattle.fam_model.specs.Rows.{IsLawful, IsLawfulRegion, IsLawfulItem, AreApart, common_item, region_number, item_number, region_of, region_named, item_named, items_in, total_size, room, room_end, is_beside, fits}
 use Rattle.fam_model.specs.Values.{is_u32}
 use Rattle.fam_rows.proofs.Places.{rises}
 use Rattle.fam_rows.proofs.Searches.{passes_found, All_found}
@@ -28,7 +27,7 @@ use Rattle.fam_script.proofs.Tests.{and_both, and_left, and_right, when_true}
 use Rattle.report_reader.specs.declared.stage.Opening.{Opening}
 use Rattle.report_reader.specs.declared.stage.Stage.{Stage}
 use Rattle.report_reader.specs.declared.stage.Stage.TheVariants as stage
-use Rattle.report_reader.specs.Machine.{changed, with_rows, create, with_region, add_region, allocate, with_item, add_item, region_step, item_step, step, run}
+use Rattle.report_reader.specs.Machine.{changed, with_rows, create, with_region, add_region, allocate, with_item, add_item, region_step, item_step, run}
 use Rattle.report_reader.specs.Report.{groups_fit}
 use Rattle.report_reader.proofs.Lists.{pairs_before, pairs_behind, holds_of, passes_of, none_found, none_kept, all_kept}
 use Rattle.report_reader.proofs.RowsBack.{IsShownRegion, region_back, IsShownItem, item_back}

@@ -1,11 +1,10 @@
 -- Each reply is read back from its words.
-use Rattle.std.proofs.Common.{◌≡◌, ℕ, ◌≤◌, Bool, true, false, not, List, [], ◌∷◌, ◌++◌, map, Option, Some, None, refl, sym, ap, ◌∙◌, append_assoc, arith}
+use Rattle.std.proofs.Common.{◌≡◌, ℕ, true, not, List, [], ◌∷◌, ◌++◌, map, Option, Some, None, refl, sym, ap, ◌∙◌, append_assoc}
 use Rattle.std.specs.Prelude.{◌==◌, ◌&&◌, codes, length, ℤ}
 use Rattle.std.specs.List.{list_all, join_with_byte}
 use Rattle.std.specs.Str.{bytes_eq}
-use Rattle.std.specs.Fmt.{decimal, signed_decimal}
+use Rattle.std.specs.Fmt.{decimal}
 use Rattle.std.proofs.lemmas.Bool.{leb-true}
-use Rattle.fam_base.specs.Error.{word_of}
 use Rattle.fam_base.specs.Name.{is_between}
 use Rattle.fam_base.specs.declared.error.FamError.{FamError}
 use Rattle.fam_base.specs.declared.error.FamError.TheVariants as error
@@ -20,19 +19,18 @@ use Rattle.fam_model.specs.declared.reply.PieceAnswer.TheVariants as answer
 use Rattle.fam_model.specs.declared.reply.Reply.{Reply}
 use Rattle.fam_model.specs.declared.reply.Reply.TheVariants as reply
 use Rattle.fam_model.specs.declared.report.ReplyLine.{ReplyLine}
-use Rattle.fam_model.specs.Atomic.{is_in_range}
 use Rattle.fam_model.specs.EventText.{call_name}
 use Rattle.fam_model.specs.Lists.{◌>>=◌, when}
 use Rattle.fam_model.specs.ReplyText.{error_words, answer_words, result_word, reply_words}
 use Rattle.fam_model.specs.ReportText.{reply_line_text}
 use Rattle.fam_model.specs.Shape.{is_name}
-use Rattle.fam_model.specs.Values.{is_u32, is_u64, is_mode, are_bytes, error_fits, answer_fits, result_fits, reply_fits}
-use Rattle.fam_model.specs.Words.{hex_text, mode_text, words_text}
-use Rattle.fam_script.specs.Reading.{Words, parts, one_of, two_of, number_of, small_of, mode_of, hex_of, or_else}
+use Rattle.fam_model.specs.Values.{is_u32, is_u64, is_mode, error_fits, answer_fits, result_fits, reply_fits}
+use Rattle.fam_model.specs.Words.{hex_text, mode_text}
+use Rattle.fam_script.specs.Reading.{Words, parts, one_of, two_of, number_of, small_of, mode_of, or_else}
 use Rattle.fam_script.proofs.Splits.{lacks, parts_back}
 use Rattle.fam_script.proofs.Tests.{and_left, and_right, and_both, all_both, when_true, bytes_same}
 use Rattle.fam_script.proofs.WordsBack.{is_printed, low_of, u64_back, small_back, mode_back, mode_printed, hex_back, signed_back, signed_printed, in_range_narrow}
-use Rattle.report_reader.specs.Reading.{bare_answer, bare_reply, name_of, full_error_of, full_error_from, one_error_of, error_of, data_answer, spoken_answer, one_answer, answer_of, result_from, result_of, result_onto, results_of, some_results, bytes_reply, item_from, region_stat_from, stat_from, error_reply, told_reply, long_reply, spoken_reply, one_reply, reply_of, reply_line_from, loose_reply_line, reply_line_of}
+use Rattle.report_reader.specs.Reading.{bare_answer, bare_reply, full_error_from, error_of, spoken_answer, answer_of, result_from, result_of, result_onto, results_of, item_from, region_stat_from, stat_from, long_reply, spoken_reply, reply_of, reply_line_from, loose_reply_line, reply_line_of}
 use Rattle.report_reader.specs.Report.{reply_line_fits}
 use Rattle.report_reader.proofs.Words.{both, are_plain, plain_printed, all_printed, all_lack_slash, all_lack_equals, plain_lacks_equals, decimal_plain, hex_plain, u32_low, low_32, two_back, name_back, name_printed, words_back, words_lack_feed}
 
@@ -225,14 +223,19 @@ mode_is_printed m e = mode_printed m (leb-true m 511 e)
 module _ (d : Descriptor) (h : reply_fits (reply.Item d) ≡ true) where
   three : (is_u64 d.item.0 && is_u64 d.region.0 && is_u64 d.base) ≡ true
   three = and_left (is_u64 d.item.0 && is_u64 d.region.0 && is_u64 d.base) (is_u64 d.size) h
+
   two : (is_u64 d.item.0 && is_u64 d.region.0) ≡ true
   two = and_left (is_u64 d.item.0 && is_u64 d.region.0) (is_u64 d.base) three
+
   i-fits : is_u64 d.item.0 ≡ true
   i-fits = and_left (is_u64 d.item.0) (is_u64 d.region.0) two
+
   r-fits : is_u64 d.region.0 ≡ true
   r-fits = and_right (is_u64 d.item.0) (is_u64 d.region.0) two
+
   b-fits : is_u64 d.base ≡ true
   b-fits = and_right (is_u64 d.item.0 && is_u64 d.region.0) (is_u64 d.base) three
+
   s-fits : is_u64 d.size ≡ true
   s-fits = and_right (is_u64 d.item.0 && is_u64 d.region.0 && is_u64 d.base) (is_u64 d.size) h
 
@@ -246,18 +249,25 @@ module _ (d : Descriptor) (h : reply_fits (reply.Item d) ≡ true) where
 module _ (row : RegionInfo) (h : reply_fits (reply.RegionStat row) ≡ true) where
   four : (is_name row.name && is_u64 row.size && is_u32 row.uid && is_u32 row.gid) ≡ true
   four = and_left (is_name row.name && is_u64 row.size && is_u32 row.uid && is_u32 row.gid) (is_mode row.mode) h
+
   m-fits : is_mode row.mode ≡ true
   m-fits = and_right (is_name row.name && is_u64 row.size && is_u32 row.uid && is_u32 row.gid) (is_mode row.mode) h
+
   to_uid : (is_name row.name && is_u64 row.size && is_u32 row.uid) ≡ true
   to_uid = and_left (is_name row.name && is_u64 row.size && is_u32 row.uid) (is_u32 row.gid) four
+
   g-fits : is_u32 row.gid ≡ true
   g-fits = and_right (is_name row.name && is_u64 row.size && is_u32 row.uid) (is_u32 row.gid) four
+
   to_size : (is_name row.name && is_u64 row.size) ≡ true
   to_size = and_left (is_name row.name && is_u64 row.size) (is_u32 row.uid) to_uid
+
   u-fits : is_u32 row.uid ≡ true
   u-fits = and_right (is_name row.name && is_u64 row.size) (is_u32 row.uid) to_uid
+
   n-fits : is_name row.name ≡ true
   n-fits = and_left (is_name row.name) (is_u64 row.size) to_size
+
   z-fits : is_u64 row.size ≡ true
   z-fits = and_right (is_name row.name) (is_u64 row.size) to_size
 
@@ -271,26 +281,37 @@ module _ (row : RegionInfo) (h : reply_fits (reply.RegionStat row) ≡ true) whe
 module _ (row : ItemInfo) (h : reply_fits (reply.ItemStat row) ≡ true) where
   to-gid : (is_name row.name && is_u64 row.region.0 && is_u64 row.base && is_u64 row.size && is_u32 row.uid && is_u32 row.gid) ≡ true
   to-gid = and_left (is_name row.name && is_u64 row.region.0 && is_u64 row.base && is_u64 row.size && is_u32 row.uid && is_u32 row.gid) (is_mode row.mode) h
+
   mode-fits : is_mode row.mode ≡ true
   mode-fits = and_right (is_name row.name && is_u64 row.region.0 && is_u64 row.base && is_u64 row.size && is_u32 row.uid && is_u32 row.gid) (is_mode row.mode) h
+
   to-uid : (is_name row.name && is_u64 row.region.0 && is_u64 row.base && is_u64 row.size && is_u32 row.uid) ≡ true
   to-uid = and_left (is_name row.name && is_u64 row.region.0 && is_u64 row.base && is_u64 row.size && is_u32 row.uid) (is_u32 row.gid) to-gid
+
   gid-fits : is_u32 row.gid ≡ true
   gid-fits = and_right (is_name row.name && is_u64 row.region.0 && is_u64 row.base && is_u64 row.size && is_u32 row.uid) (is_u32 row.gid) to-gid
+
   to-size : (is_name row.name && is_u64 row.region.0 && is_u64 row.base && is_u64 row.size) ≡ true
   to-size = and_left (is_name row.name && is_u64 row.region.0 && is_u64 row.base && is_u64 row.size) (is_u32 row.uid) to-uid
+
   uid-fits : is_u32 row.uid ≡ true
   uid-fits = and_right (is_name row.name && is_u64 row.region.0 && is_u64 row.base && is_u64 row.size) (is_u32 row.uid) to-uid
+
   to-base : (is_name row.name && is_u64 row.region.0 && is_u64 row.base) ≡ true
   to-base = and_left (is_name row.name && is_u64 row.region.0 && is_u64 row.base) (is_u64 row.size) to-size
+
   size-fits : is_u64 row.size ≡ true
   size-fits = and_right (is_name row.name && is_u64 row.region.0 && is_u64 row.base) (is_u64 row.size) to-size
+
   to-region : (is_name row.name && is_u64 row.region.0) ≡ true
   to-region = and_left (is_name row.name && is_u64 row.region.0) (is_u64 row.base) to-base
+
   base-fits : is_u64 row.base ≡ true
   base-fits = and_right (is_name row.name && is_u64 row.region.0) (is_u64 row.base) to-base
+
   name-fits : is_name row.name ≡ true
   name-fits = and_left (is_name row.name) (is_u64 row.region.0) to-region
+
   region-fits : is_u64 row.region.0 ≡ true
   region-fits = and_right (is_name row.name) (is_u64 row.region.0) to-region
 
@@ -340,10 +361,13 @@ reply_printed (reply.Error e) h = all_printed (error_words e) (error_plain e h)
 module _ (told : ReplyLine) (h : reply_line_fits told ≡ true) where
   numbers : (is_u32 told.pe.0 && is_u64 told.call) ≡ true
   numbers = and_left (is_u32 told.pe.0 && is_u64 told.call) (reply_fits told.reply) h
+
   pe-fits : is_u32 told.pe.0 ≡ true
   pe-fits = and_left (is_u32 told.pe.0) (is_u64 told.call) numbers
+
   call-fits : is_u64 told.call ≡ true
   call-fits = and_right (is_u32 told.pe.0) (is_u64 told.call) numbers
+
   given-fits : reply_fits told.reply ≡ true
   given-fits = and_right (is_u32 told.pe.0 && is_u64 told.call) (reply_fits told.reply) h
 

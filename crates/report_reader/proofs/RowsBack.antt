@@ -1,28 +1,26 @@
 -- The lines of the opening are read back from their texts, and each by its own reader alone.
-use Rattle.std.proofs.Common.{◌≡◌, ◌≢◌, ℕ, ◌<◌, ◌≤◌, ◌^◌, Bool, true, false, not, List, [], ◌∷◌, ◌++◌, Option, Some, None, refl, sym, ap, subst, ◌∙◌, arith, lit≤, lt_of_lt_of_le, inl, inr}
+use Rattle.std.proofs.Common.{◌≡◌, ◌≢◌, ℕ, ◌<◌, ◌≤◌, ◌^◌, true, not, List, [], ◌∷◌, Option, Some, None, refl, sym, ap, subst, ◌∙◌, arith, inl, inr}
 use Rattle.std.specs.Prelude.{◌==◌, ◌&&◌, ◌||◌, nat_le, codes, length, IfSome}
 use Rattle.std.specs.List.{list_all}
 use Rattle.std.specs.Str.{bytes_eq}
 use Rattle.std.specs.Fmt.{decimal}
-use Rattle.std.proofs.lemmas.Bool.{leb-true, le-leb, ltb-true, lt-ltb, or_cases}
+use Rattle.std.proofs.lemmas.Bool.{leb-true, le-leb, lt-ltb, or_cases}
 use Rattle.std.proofs.lemmas.Bool.Decides.{nat_tests}
 use Rattle.fam_base.specs.Name.{is_between, is_good_byte, is_good_name}
 use Rattle.fam_model.specs.declared.report.ReplyLine.{ReplyLine}
-use Rattle.fam_base.specs.declared.naming.PeId.{PeId}
 use Rattle.fam_model.specs.declared.rows.ItemRow.{ItemRow}
 use Rattle.fam_model.specs.declared.rows.RegionRow.{RegionRow}
-use Rattle.fam_model.specs.Limits.{max_region_size, number_end, nobody}
 use Rattle.fam_model.specs.Lists.{◌>>=◌, when}
 use Rattle.fam_model.specs.ReportText.{reply_line_text, region_text, item_text}
 use Rattle.fam_model.specs.Rows.{region_number, item_number}
 use Rattle.fam_model.specs.Values.{is_u32, is_u64, is_mode}
-use Rattle.fam_model.specs.Words.{mode_text, words_text}
+use Rattle.fam_model.specs.Words.{mode_text}
 use Rattle.fam_script.specs.Reading.{Words, parts, two_of, three_of, number_of}
 use Rattle.fam_script.proofs.Numbers.{number_is as number_is_low}
 use Rattle.fam_script.proofs.Splits.{lacks}
 use Rattle.fam_script.proofs.Tests.{and_left, and_right, and_both, all_same, some_is, bind_some, when_some, when_true, same_bytes, bytes_same}
 use Rattle.fam_script.proofs.WordsBack.{is_printed}
-use Rattle.report_reader.specs.Reading.{name_of, reply_line_from, reply_of, loose_reply_line, reply_line_of, opening_text, loose_opening, opening_of, region_row_from, loose_region, is_shown_region, region_line_of, item_row_from, loose_item, is_shown_item, item_line_of, events_text, events_of}
+use Rattle.report_reader.specs.Reading.{loose_reply_line, reply_line_of, opening_text, loose_opening, opening_of, region_row_from, loose_region, is_shown_region, region_line_of, item_row_from, loose_item, is_shown_item, item_line_of, events_text, events_of}
 use Rattle.report_reader.specs.Report.{reply_line_fits}
 use Rattle.report_reader.proofs.Words.{both, words_back, words_lack_feed}
 use Rattle.report_reader.proofs.RepliesBack.{number_is, small_is, mode_is, u64_printed, u32_printed, mode_is_printed}
@@ -215,8 +213,7 @@ number_low word n e = by_answer (number_of word) (number_is_low word) e
 pub reply_line_takes : (text : List ℕ) (told : ReplyLine) → reply_line_of text ≡ Some told → (reply_line_fits told ≡ true) × (text ≡ reply_line_text told)
 reply_line_takes text told e =
     let b = bind_some (loose_reply_line (parts 32 text)) (λ found. when (reply_line_fits found && bytes_eq (reply_line_text found) text) found) told e in
-    let w = when_some (reply_line_fits b.0 && bytes_eq (reply_line_text b.0) text) b.0 told b.2 in
-    (
+    let w = when_some (reply_line_fits b.0 && bytes_eq (reply_line_text b.0) text) b.0 told b.2 in (
       ap reply_line_fits (sym w.1) ∙ and_left (reply_line_fits b.0) (bytes_eq (reply_line_text b.0) text) w.0,
       sym (same_bytes (reply_line_text b.0) text (and_right (reply_line_fits b.0) (bytes_eq (reply_line_text b.0) text) w.0)) ∙ ap reply_line_text w.1,
     )
@@ -224,8 +221,7 @@ reply_line_takes text told e =
 pub region_takes : (text : List ℕ) (row : RegionRow) → region_line_of text ≡ Some row → (is_shown_region row ≡ true) × (text ≡ region_text row)
 region_takes text row e =
     let b = bind_some (loose_region (parts 32 text)) (λ found. when (is_shown_region found && bytes_eq (region_text found) text) found) row e in
-    let w = when_some (is_shown_region b.0 && bytes_eq (region_text b.0) text) b.0 row b.2 in
-    (
+    let w = when_some (is_shown_region b.0 && bytes_eq (region_text b.0) text) b.0 row b.2 in (
       ap is_shown_region (sym w.1) ∙ and_left (is_shown_region b.0) (bytes_eq (region_text b.0) text) w.0,
       sym (same_bytes (region_text b.0) text (and_right (is_shown_region b.0) (bytes_eq (region_text b.0) text) w.0)) ∙ ap region_text w.1,
     )
@@ -233,8 +229,7 @@ region_takes text row e =
 pub item_takes : (text : List ℕ) (row : ItemRow) → item_line_of text ≡ Some row → (is_shown_item row ≡ true) × (text ≡ item_text row)
 item_takes text row e =
     let b = bind_some (loose_item (parts 32 text)) (λ found. when (is_shown_item found && bytes_eq (item_text found) text) found) row e in
-    let w = when_some (is_shown_item b.0 && bytes_eq (item_text b.0) text) b.0 row b.2 in
-    (
+    let w = when_some (is_shown_item b.0 && bytes_eq (item_text b.0) text) b.0 row b.2 in (
       ap is_shown_item (sym w.1) ∙ and_left (is_shown_item b.0) (bytes_eq (item_text b.0) text) w.0,
       sym (same_bytes (item_text b.0) text (and_right (is_shown_item b.0) (bytes_eq (item_text b.0) text) w.0)) ∙ ap item_text w.1,
     )
@@ -251,8 +246,7 @@ events_takes text count e =
     let b = bind_some (two_of (parts 32 text)) (λ w. number_of w.1 >>= λ n. when (bytes_eq (events_text n) text) n) count e in
     let c = bind_some (number_of b.0.1) (λ n. when (bytes_eq (events_text n) text) n) count b.2 in
     let w = when_some (bytes_eq (events_text c.0) text) c.0 count c.2 in
-    let low = number_low b.0.1 c.0 c.1 in
-    (
+    let low = number_low b.0.1 c.0 c.1 in (
       ap is_u64 (sym w.1) ∙ low,
       sym (same_bytes (events_text c.0) text w.0) ∙ ap events_text w.1,
     )

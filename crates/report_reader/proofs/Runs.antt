@@ -1,11 +1,10 @@
 -- The lines of a lawful report are read to its end.
-use Rattle.std.proofs.Common.{◌≡◌, ◌≢◌, ℕ, zero, suc, ◌+◌, ◌-◌, ◌<◌, ◌≤◌, ◌^◌, Bool, true, false, not, cond, List, [], ◌∷◌, ◌++◌, length, map, drop, get_or, Option, Some, None, refl, sym, ap, subst, ◌∙◌, append_assoc, arith, lit≤, lt_of_lt_of_le}
+use Rattle.std.proofs.Common.{◌≡◌, ◌≢◌, ℕ, zero, suc, ◌+◌, ◌-◌, ◌<◌, ◌≤◌, ◌^◌, Bool, true, not, cond, List, [], ◌∷◌, ◌++◌, length, map, drop, get_or, Option, Some, None, refl, sym, ap, subst, ◌∙◌, append_assoc, arith, lit≤, lt_of_lt_of_le}
 use Rattle.std.specs.Prelude.{◌==◌, ◌&&◌, nat_le, codes, AllPairs}
 use Rattle.std.specs.List.{list_all, filter}
 use Rattle.std.specs.Str.{bytes_eq}
 use Rattle.std.proofs.lemmas.Bool.{le-leb, lt-ltb}
-use Rattle.std.proofs.lemmas.Bool.Decides.{nat_tests}
-use Rattle.std.proofs.lemmas.List.{append-nil, map-append}
+use Rattle.std.proofs.lemmas.List.{append-nil}
 use Rattle.fam_model.specs.declared.change.Change.TheVariants as change
 use Rattle.fam_model.specs.declared.event.Event.{Event}
 use Rattle.fam_model.specs.declared.report.ReplyLine.{ReplyLine}
@@ -17,25 +16,25 @@ use Rattle.fam_model.specs.EventText.{event_text}
 use Rattle.fam_model.specs.Lawful.{is_lawful_change}
 use Rattle.fam_model.specs.Limits.{number_end}
 use Rattle.fam_model.specs.Lists.{◌>>=◌, when}
-use Rattle.fam_model.specs.ReportText.{reply_line_text, region_text, item_text, opening_lines, event_lines, report_lines, report_text}
+use Rattle.fam_model.specs.ReportText.{reply_line_text, region_text, item_text, opening_lines, event_lines, report_lines}
 use Rattle.fam_model.specs.Rows.{IsLawful, common_rows, common_region, common_item, region_number, item_number}
 use Rattle.fam_model.specs.Values.{is_u64}
 use Rattle.fam_rows.proofs.Places.{rises}
 use Rattle.fam_script.proofs.Splits.{lacks}
-use Rattle.fam_script.proofs.Tests.{and_left, and_right, and_both, all_both, when_true, bytes_same}
+use Rattle.fam_script.proofs.Tests.{and_left, and_right, and_both, all_both, when_true}
 use Rattle.report_reader.specs.declared.stage.Opening.{Opening}
 use Rattle.report_reader.specs.declared.stage.Stage.{Stage}
 use Rattle.report_reader.specs.declared.stage.Stage.TheVariants as stage
 use Rattle.report_reader.specs.EventForm.{event_fits}
-use Rattle.report_reader.specs.Machine.{opened, with_event, told_step, events_step, item_step, region_step, event_step, step, run}
-use Rattle.report_reader.specs.Reading.{reply_line_of, opening_text, opening_of, region_line_of, item_line_of, events_text, events_of, event_of}
+use Rattle.report_reader.specs.Machine.{opened, with_event, told_step, item_step, region_step, step, run}
+use Rattle.report_reader.specs.Reading.{opening_text, events_text, event_of}
 use Rattle.report_reader.specs.Report.{reply_line_fits, groups_fit, IsLawfulReport}
 use Rattle.report_reader.proofs.Lists.{first_is, pairs_behind, kept_whole, not_zero, one_less}
-use Rattle.report_reader.proofs.Openings.{some_opening, some_stage, with_regions, with_items, RegionsRun, regions_run, ItemsRun, items_run, shown_region, shown_item}
+use Rattle.report_reader.proofs.Openings.{some_stage, with_regions, with_items, RegionsRun, regions_run, ItemsRun, items_run, shown_region, shown_item}
 use Rattle.report_reader.proofs.EventsBack.{event_back, event_lacks_feed}
 use Rattle.report_reader.proofs.RepliesBack.{reply_line_back, reply_line_lacks_feed}
 use Rattle.report_reader.proofs.RowsBack.{opening_back, opening_no_reply, opening_lacks_feed, region_lacks_feed, item_no_region, item_lacks_feed, events_back, events_no_region, events_no_item, events_lacks_feed}
-use Rattle.report_reader.proofs.Steps.{Texts, told_lines, counted_lines}
+use Rattle.report_reader.proofs.Steps.{Texts, told_lines}
 
 -- runs put together
 

@@ -1,12 +1,10 @@
 -- A line is the text of what was read of it where the report with this line alone has it in its place.
-use Rattle.std.proofs.Common.{◌≡◌, ℕ, suc, ◌+◌, Bool, true, false, not, cond, List, [], ◌∷◌, ◌++◌, length, map, take, drop, Option, Some, None, refl, sym, ap, ◌∙◌, append_assoc, arith}
+use Rattle.std.proofs.Common.{◌≡◌, ℕ, Bool, true, false, not, cond, List, [], ◌∷◌, ◌++◌, length, map, take, drop, None, refl, sym, ap, ◌∙◌, append_assoc, arith}
 use Rattle.std.specs.Prelude.{◌==◌, ◌&&◌, codes}
 use Rattle.std.specs.Str.{bytes_eq}
 use Rattle.std.specs.Fmt.{decimal, digits}
-use Rattle.std.specs.List.{filter}
 use Rattle.std.proofs.lemmas.Bool.Decides.{nat_tests}
 use Rattle.std.proofs.lemmas.List.{take_at, drop_at, length-append}
-use Rattle.std.proofs.lemmas.Slice.Eq.{bytes_eq-Decides}
 use Rattle.fam_model.specs.declared.event.Event.{Event}
 use Rattle.fam_model.specs.declared.report.ReplyLine.{ReplyLine}
 use Rattle.fam_model.specs.declared.report.Report.{Report}
@@ -105,8 +103,8 @@ pub region_kept : (row : RegionRow) (text : List ℕ) (report : Report) (b : Boo
 region_kept row text report b is nonzero small e =
     let some = none_zero (region_number row) nonzero in
     let same = e ∙ ap (λ (r : Report). bytes_eq (report_text r) (codes "replies\nopening 0 0\n" ++ (text ++ codes "\nevents 0\ndone\n"))) is
-        ∙ ap (λ (t : List ℕ). bytes_eq t (codes "replies\nopening 0 0\n" ++ (text ++ codes "\nevents 0\ndone\n"))) (region_text_is row some)
-        ∙ within (codes "replies\nopening 0 0\n") (region_text row) text (codes "\nevents 0\ndone\n") in
+    ∙ ap (λ (t : List ℕ). bytes_eq t (codes "replies\nopening 0 0\n" ++ (text ++ codes "\nevents 0\ndone\n"))) (region_text_is row some)
+    ∙ within (codes "replies\nopening 0 0\n") (region_text row) text (codes "\nevents 0\ndone\n") in
     (λ i. when (not (some i) && small i && bytes_eq (region_text row) text) row) ∙ ap (λ (t : Bool). when t row) (sym same)
 
 pub item_kept : (row : ItemRow) (text : List ℕ) (report : Report) (b : Bool) → report ≡ item_report row → (item_number row ≡ 0 → ⊥) → is_u32 row.gid ≡ true →
@@ -115,8 +113,8 @@ pub item_kept : (row : ItemRow) (text : List ℕ) (report : Report) (b : Bool) �
 item_kept row text report b is nonzero small e =
     let some = none_zero (item_number row) nonzero in
     let same = e ∙ ap (λ (r : Report). bytes_eq (report_text r) (codes "replies\nopening 0 0\n" ++ (text ++ codes "\nevents 0\ndone\n"))) is
-        ∙ ap (λ (t : List ℕ). bytes_eq t (codes "replies\nopening 0 0\n" ++ (text ++ codes "\nevents 0\ndone\n"))) (item_text_is row some)
-        ∙ within (codes "replies\nopening 0 0\n") (item_text row) text (codes "\nevents 0\ndone\n") in
+    ∙ ap (λ (t : List ℕ). bytes_eq t (codes "replies\nopening 0 0\n" ++ (text ++ codes "\nevents 0\ndone\n"))) (item_text_is row some)
+    ∙ within (codes "replies\nopening 0 0\n") (item_text row) text (codes "\nevents 0\ndone\n") in
     (λ i. when (not (some i) && small i && bytes_eq (item_text row) text) row) ∙ ap (λ (t : Bool). when t row) (sym same)
 
 -- a common row is not shown

@@ -1,12 +1,11 @@
 -- What stands behind the lines so far: with each line one more, and always the beginning of a lawful report.
-use Rattle.std.proofs.Common.{◌≡◌, ℕ, suc, ◌+◌, ◌-◌, ◌<◌, ◌≤◌, ◌^◌, Bool, true, false, not, cond, List, [], ◌∷◌, ◌++◌, length, map, Option, Some, None, refl, sym, ap, subst, ◌∙◌, append_assoc, arith, zero}
+use Rattle.std.proofs.Common.{◌≡◌, ℕ, suc, ◌+◌, ◌-◌, ◌<◌, ◌≤◌, Bool, true, false, not, cond, List, [], ◌∷◌, ◌++◌, length, map, Option, Some, None, refl, sym, ap, subst, ◌∙◌, append_assoc, arith, zero}
 use Rattle.std.specs.Prelude.{◌==◌, ◌&&◌, nat_le, nat_lt, codes, replicate, ⊤}
 use Rattle.std.specs.List.{list_all, filter}
 use Rattle.std.specs.Str.{bytes_eq}
 use Rattle.std.proofs.lemmas.Bool.{leb-true, le-leb, ltb-true, eqb-true, eqb-false}
 use Rattle.std.proofs.lemmas.List.{append-nil, map-append, length-append, length-replicate}
 use Rattle.std.proofs.lemmas.List.Elements.{filter-append}
-use Rattle.std.proofs.lemmas.List.Folds.{list_all-append}
 use Rattle.fam_model.specs.declared.change.Change.{Change}
 use Rattle.fam_model.specs.declared.change.Change.TheVariants as change
 use Rattle.fam_model.specs.declared.event.Event.{Event}
@@ -31,10 +30,9 @@ use Rattle.report_reader.specs.declared.stage.Opening.{Opening}
 use Rattle.report_reader.specs.declared.stage.Stage.{Stage}
 use Rattle.report_reader.specs.declared.stage.Stage.TheVariants as stage
 use Rattle.report_reader.specs.EventForm.{event_fits}
-use Rattle.report_reader.specs.Machine.{changed, finished_rows, create, with_region, with_rows, add_region, allocate, with_item, add_item, opened, begun, with_event, opening_step, told_step, events_step, item_step, region_step, event_step, first_step, step, run}
-use Rattle.report_reader.specs.Reading.{reply_line_of, opening_text, opening_of, is_shown_region, region_line_of, is_shown_item, item_line_of, events_text, events_of, event_of, loose_event}
+use Rattle.report_reader.specs.Machine.{changed, finished_rows, create, with_region, with_rows, add_region, allocate, with_item, add_item, opened, begun, with_event, opening_step, told_step, events_step, item_step, region_step, first_step, step, run}
+use Rattle.report_reader.specs.Reading.{reply_line_of, opening_text, opening_of, region_line_of, item_line_of, events_text, events_of, event_of}
 use Rattle.report_reader.specs.Report.{reply_line_fits, groups_fit, IsLawfulReport, BeginsReport}
-use Rattle.report_reader.proofs.Lists.{not_zero, one_less}
 use Rattle.report_reader.proofs.Openings.{some_opening, some_stage}
 use Rattle.report_reader.proofs.RowsBack.{reply_line_takes, region_takes, item_takes, opening_takes, events_takes}
 use Rattle.report_reader.proofs.EventsBack.{event_takes}
@@ -177,8 +175,7 @@ bounds_of o e =
     let c = nat_le o.rows.next_item o.next_item in
     let d = nat_le o.next_item number_end in
     let three = and_left (a && b && c) d e in
-    let two = and_left (a && b) c three in
-    (
+    let two = and_left (a && b) c three in (
       leb-true o.rows.next_region o.next_region (and_left a b two),
       leb-true o.next_region number_end (and_right a b two),
       leb-true o.rows.next_item o.next_item (and_right (a && b) c three),

@@ -121,11 +121,7 @@ fn one_answer(text: &[u8], separator: u8) -> Option<PieceAnswer>
     bare_answer(word)
 }
 
-fn data_answer(
-    alloc: Global,
-    text: &[u8],
-    separator: u8,
-) -> Result<Option<PieceAnswer>, NoMemory>
+fn data_answer(alloc: Global, text: &[u8], separator: u8) -> Result<Option<PieceAnswer>, NoMemory>
     ensures { IfOk result (λ a. a ≡ words.data_answer (parts separator text.now)) }
 {
     let Some(word) = one_word(text, separator) else {
@@ -144,11 +140,7 @@ fn failed_answer(text: &[u8], separator: u8) -> Option<PieceAnswer>
     Some(PieceAnswer::Refused(error))
 }
 
-fn spoken_answer(
-    alloc: Global,
-    text: &[u8],
-    separator: u8,
-) -> Result<Option<PieceAnswer>, NoMemory>
+fn spoken_answer(alloc: Global, text: &[u8], separator: u8) -> Result<Option<PieceAnswer>, NoMemory>
     ensures { IfOk result (λ a. a ≡ words.spoken_answer (parts separator text.now)) }
 {
     let Some((word, arguments)) = cut(text, separator) else {

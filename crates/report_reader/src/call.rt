@@ -113,9 +113,7 @@ fn is_six_words(word: &[u8]) -> bool
 fn is_seven_words(word: &[u8]) -> bool
     ensures { result ≡ words.is_seven_words word.now }
 {
-    word == b"gather".as_slice()
-        || word == b"gather-nb".as_slice()
-        || word == b"copy".as_slice()
+    word == b"gather".as_slice() || word == b"gather-nb".as_slice() || word == b"copy".as_slice()
 }
 
 fn is_eight_words(word: &[u8]) -> bool
@@ -176,7 +174,7 @@ pub fn first_word(text: &[u8]) -> &[u8]
 fn behind(text: &[u8], count: usize) -> Option<&[u8]>
     ensures { MatchOption result (drop count (parts 32 text.now) ≡ [])
         (λ rest. (parts 32 rest.now ≡ drop count (parts 32 text.now))
-            × (text.now ≡ flat_map (λ word. word ++ 32 ∷ []) (take count (parts 32 text.now)) ++ rest.now)) }
+        × (text.now ≡ flat_map (λ word. word ++ 32 ∷ []) (take count (parts 32 text.now)) ++ rest.now)) }
 {
     let mut rest = text;
     for _ in 0..count {
@@ -201,7 +199,7 @@ fn cut_behind(text: &[u8], count: usize) -> Option<(&[u8], &[u8])>
     requires { 1 ≤ count }
     ensures { MatchOption result (drop count (parts 32 text.now) ≡ [])
         (λ p. (parts 32 p.1.now ≡ drop count (parts 32 text.now))
-            × (p.0.now ≡ words_text (take count (parts 32 text.now)))) }
+        × (p.0.now ≡ words_text (take count (parts 32 text.now)))) }
 {
     let Some(rest) = behind(text, count) else {
         return None;

@@ -11,7 +11,9 @@ ghost use Rattle.report_reader.specs.Report as reports;
 ghost use Rattle.report_reader.specs.Reading.{calls_told};
 
 use fam_base::{Bytes, FamError, Mode};
-use fam_model::{Event, ItemInfo, OpResult, PieceAnswer, RegionInfo, Reply, ReplyLine, What, Width};
+use fam_model::{
+    Event, ItemInfo, OpResult, PieceAnswer, RegionInfo, Reply, ReplyLine, What, Width,
+};
 
 fn number_fits(number: u64)
     ensures { values.is_u64 number ≡ true }
@@ -132,11 +134,7 @@ fn reply_fits(reply: &Reply) -> bool
             error_fits(error);
             true
         }
-        Reply::Done
-        | Reply::Issued
-        | Reply::Passed
-        | Reply::Left
-        | Reply::Crashed => true,
+        Reply::Done | Reply::Issued | Reply::Passed | Reply::Left | Reply::Crashed => true,
     }
 }
 

@@ -101,11 +101,7 @@ fn with_item(alloc: Global, rows: Rows, row: ItemRow) -> Result<Option<Rows>, No
 }
 
 /// The opening with an item more, if its rows are lawful then.
-pub fn add_item(
-    alloc: Global,
-    opening: Opening,
-    row: ItemRow,
-) -> Result<Option<Opening>, NoMemory>
+pub fn add_item(alloc: Global, opening: Opening, row: ItemRow) -> Result<Option<Opening>, NoMemory>
     requires { IsLawful opening.rows }
     ensures opening { IfOk result (λ next. next ≡ machine.add_item opening row) }
     ensures lawful { IfOk result (λ next. IfSome next (λ o. IsLawful o.rows)) }

@@ -109,13 +109,7 @@ fn bytes_reply(alloc: Global, arguments: &[u8]) -> Result<Option<Reply>, NoMemor
     }
 }
 
-fn region_stat_with(
-    name: Bytes,
-    size: &[u8],
-    uid: &[u8],
-    gid: &[u8],
-    bits: &[u8],
-) -> Option<Reply>
+fn region_stat_with(name: Bytes, size: &[u8], uid: &[u8], gid: &[u8], bits: &[u8]) -> Option<Reply>
     ensures { result ≡ words.region_stat_from name (number_of size.now) (small_of uid.now) (small_of gid.now) (mode_of bits.now) }
 {
     let size = number(size)?;

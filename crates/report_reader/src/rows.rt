@@ -103,9 +103,7 @@ fn item_row(alloc: Global, number: &[u8], arguments: &[u8]) -> Result<Option<Ite
         return Ok(None);
     };
     let name = Sequence::of(alloc, name)?;
-    Ok(item_row_with(
-        number, region, base, size, uid, gid, mode, name,
-    ))
+    Ok(item_row_with(number, region, base, size, uid, gid, mode, name))
 }
 
 fn numbered_item(alloc: Global, text: &[u8]) -> Result<Option<ItemRow>, NoMemory>
