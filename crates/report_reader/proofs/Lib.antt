@@ -1,0 +1,17 @@
+pub mod CallWords
+pub mod CallsBack
+pub mod Cutting
+pub mod EventsBack
+pub mod Exact
+pub mod FrontCalls
+pub mod Lists
+pub mod Numbers
+pub mod Openings
+pub mod RepliesBack
+pub mod ResultsRead
+pub mod RowsBack
+pub mod Runs
+pub mod Same
+pub mod Scanning
+pub mod Steps
+pub mod Words

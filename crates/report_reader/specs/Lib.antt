@@ -1,0 +1,5 @@
+pub mod EventForm
+pub mod Laws
+pub mod Machine
+pub mod Reading
+pub mod Report
