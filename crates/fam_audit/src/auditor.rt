@@ -1,6 +1,6 @@
 //! An auditor between two events.
 
-ghost use Rattle.std.specs.Prelude.{◌≡◌, ◌<◌, length, IfOk, IfSome, OnOk};
+ghost use Rattle.std.specs.Prelude.{◌≡◌, IfOk, OnOk};
 ghost use Rattle.fam_audit.specs.Auditing.{Judges, JudgesAll};
 ghost use Rattle.fam_audit.specs.Turns.{AreHeard};
 
@@ -53,8 +53,7 @@ impl Auditor {
 
     /// Takes events in turn up to the first one that breaks a rule: its place, and the least rule that it breaks.
     pub fn judge_all(&mut self, history: &[Event]) -> Result<Option<(usize, u8)>, NoMemory>
-        ensures found { IfOk result (JudgesAll self.old history.now self.new) }
-        ensures within { IfOk result (λ found. IfSome found (λ wrong. wrong.0 < length history.now)) }
+        ensures { IfOk result (JudgesAll self.old history.now self.new) }
     {
         for (place, event) in history.iter().enumerate() {
             if let Some(rule) = self.judge(event)? {

@@ -1,6 +1,6 @@
 //! A report is judged.
 
-ghost use Rattle.std.specs.Prelude.{◌≡◌, ◌<◌, ◌≤◌, ◌^◌, true, length, IfOk};
+ghost use Rattle.std.specs.Prelude.{◌≡◌, ◌≤◌, true, length, IfOk};
 ghost use Rattle.std.specs.List.{flat_map};
 ghost use Rattle.std.specs.Option.{option_map_or};
 ghost use Rattle.fam_model.specs.Grammar.{IsLawfulScript};
@@ -63,14 +63,13 @@ fn compare(
     script: &Script,
     report: &Report,
 ) -> Result<Verdict, NoMemory>
-    requires over { auditing.IsOver script.now report.now turns }
-    requires lines { verdicts.event_line script.now report.now (length report.now.history) < 2 ^ 64 }
+    requires { auditing.IsOver script.now report.now turns }
     ensures { IfOk result (λ verdict. verdict ≡ verdicts.verdict script.now report.now) }
 {
     let due = all_lines(alloc, turns)?;
     match first_wrong_line(report.replies.as_slice(), due.as_slice()) {
         Some(place) => Ok(Verdict::Illegal {
-            line: reply_line(script, place),
+            line: reply_line(script, place)?,
             rule: 13,
         }),
         None => Ok(Verdict::Legal(report.history.len() as u64)),
@@ -86,14 +85,13 @@ fn judge_end(
 ) -> Result<Verdict, NoMemory>
     requires script { IsLawfulScript script.now }
     requires taken { auditing.HasTaken script.now report.now auditor }
-    requires lines { verdicts.event_line script.now report.now (length report.now.history) < 2 ^ 64 }
     ensures { IfOk result (λ verdict. verdict ≡ verdicts.verdict script.now report.now) }
 {
     if has_stopped(&auditor.machine) {
         compare(alloc, auditor.turns, script, report)
     } else {
         Ok(Verdict::Illegal {
-            line: event_line(script, report, report.history.len()),
+            line: event_line(script, report, report.history.len())?,
             rule: 14,
         })
     }
@@ -105,14 +103,13 @@ fn judge_end(
 pub fn audit(alloc: Global, script: &Script, report: &Report) -> Result<Verdict, NoMemory>
     requires script { IsLawfulScript script.now }
     requires rows { IsLawful report.now.rows }
-    requires lines { verdicts.event_line script.now report.now (length report.now.history) < 2 ^ 64 }
     ensures { IfOk result (λ verdict. verdict ≡ verdicts.verdict script.now report.now) }
 {
     let mut auditor = Auditor::new(alloc, script, &report.rows)?;
     let wrong = auditor.judge_all(report.history.as_slice())?;
     match wrong {
         Some((place, rule)) => Ok(Verdict::Illegal {
-            line: event_line(script, report, place),
+            line: event_line(script, report, place)?,
             rule,
         }),
         None => judge_end(alloc, auditor, script, report),

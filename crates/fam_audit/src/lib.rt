@@ -8,6 +8,8 @@ mod judging;
 mod laws;
 mod lines;
 mod opening;
+#[cfg(test)]
+mod tests;
 mod turn;
 mod verdict;
 

@@ -1,11 +1,12 @@
 //! Reply lines, and the numbers of lines in the whole input.
 
-ghost use Rattle.std.specs.Prelude.{◌≡◌, ◌==◌, ◌<◌, ◌≤◌, ◌^◌, count_by, length, not, slice_get, IfSome};
+ghost use Rattle.std.specs.Prelude.{◌≡◌, ◌==◌, ◌+◌, count_by, length, not, slice_get, IfOk};
 ghost use Rattle.fam_model.specs.Lists.{is_some_and};
 ghost use Rattle.fam_model.specs.ReportText as texts;
 ghost use Rattle.fam_model.specs.Rows as rows_of;
 ghost use Rattle.fam_audit.specs.Verdict as verdict;
 
+use fam_base::NoMemory;
 use fam_model::{ItemRow, RegionRow, ReplyLine, Report, Rows, Script};
 
 /// Whether two lines tell the same reply to the same call.
@@ -27,8 +28,7 @@ fn is_due(due: &[ReplyLine], place: usize, line: &ReplyLine) -> bool
 
 /// The first place at which there is not the line that is due: another one, one too many, or none.
 pub fn first_wrong_line(lines: &[ReplyLine], due: &[ReplyLine]) -> Option<usize>
-    ensures place { result ≡ verdict.first_wrong_line lines.now due.now }
-    ensures within { IfSome result (λ place. place ≤ length lines.now) }
+    ensures { result ≡ verdict.first_wrong_line lines.now due.now }
 {
     for (place, line) in lines.iter().enumerate() {
         if !is_due(due, place, line) {
@@ -42,12 +42,22 @@ pub fn first_wrong_line(lines: &[ReplyLine], due: &[ReplyLine]) -> Option<usize>
     }
 }
 
-/// The line of the whole input that the reply line at a place is; behind the last one comes the line `opening`.
-pub fn reply_line(script: &Script, place: usize) -> u64
-    requires { verdict.reply_line script.now place < 2 ^ 64 }
-    ensures { result ≡ verdict.reply_line script.now place }
+/// A sum of numbers of lines. As many lines as no number can count lie in no memory.
+fn add(lines: u64, more: u64) -> Result<u64, NoMemory>
+    ensures { IfOk result (λ sum. sum ≡ lines + more) }
 {
-    script.lines + 2 + place as u64
+    match lines.checked_add(more) {
+        Some(sum) => Ok(sum),
+        None => Err(NoMemory),
+    }
+}
+
+/// The line of the whole input that the reply line at a place is; behind the last one comes the line `opening`.
+pub fn reply_line(script: &Script, place: usize) -> Result<u64, NoMemory>
+    ensures { IfOk result (λ line. line ≡ verdict.reply_line script.now place) }
+{
+    let replies = add(script.lines, 2)?;
+    add(replies, place as u64)
 }
 
 /// The lines of regions in an opening.
@@ -66,20 +76,21 @@ fn item_lines(rows: &[ItemRow]) -> usize
 
 /// The lines of an opening.
 #[tactic(auto, using(crate::proofs::Counting::opening_length))]
-fn opening_lines(rows: &Rows) -> u64
-    requires { length (texts.opening_lines rows.now) < 2 ^ 64 }
-    ensures { result ≡ length (texts.opening_lines rows.now) }
+fn opening_lines(rows: &Rows) -> Result<u64, NoMemory>
+    ensures { IfOk result (λ lines. lines ≡ length (texts.opening_lines rows.now)) }
 {
     let regions = region_lines(rows.regions.as_slice()) as u64;
     let items = item_lines(rows.items.as_slice()) as u64;
-    1 + (regions + items)
+    let rows = add(regions, items)?;
+    add(1, rows)
 }
 
 /// The line of the whole input that the event at a place is; behind the last one comes the line `done`.
-pub fn event_line(script: &Script, report: &Report, place: usize) -> u64
-    requires { verdict.event_line script.now report.now place < 2 ^ 64 }
-    ensures { result ≡ verdict.event_line script.now report.now place }
+pub fn event_line(script: &Script, report: &Report, place: usize) -> Result<u64, NoMemory>
+    ensures { IfOk result (λ line. line ≡ verdict.event_line script.now report.now place) }
 {
-    let opening = reply_line(script, report.replies.len());
-    opening + opening_lines(&report.rows) + 1 + place as u64
+    let opening = reply_line(script, report.replies.len())?;
+    let events = add(opening, opening_lines(&report.rows)?)?;
+    let first = add(events, 1)?;
+    add(first, place as u64)
 }

@@ -4,6 +4,8 @@
 mod calls;
 mod making;
 mod printing;
+#[cfg(test)]
+mod tests;
 mod trial;
 
 pub use making::{made, made_script};

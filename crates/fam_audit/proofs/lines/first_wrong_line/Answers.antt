@@ -4,8 +4,8 @@ use Rattle.std.proofs.lemmas.Option.{slice_get_read}
 use Rattle.fam_audit.proofs.Comparing.{due_within, ends_short, wrong_here, wrong_later}
 use Rattle.fam_audit.proofs.lines.first_wrong_line.Goals as goal
 
-pub returns-then-not-is_due-clause-place : goal.returns-then-not-is_due-clause-place
-returns-then-not-is_due-clause-place c =
+pub returns-then-not-is_due : goal.returns-then-not-is_due
+returns-then-not-is_due c =
     let lines = c.args.lines.now in
     let place = c.loop-place.place in
     let line = c.index-lines-place.result in
@@ -23,8 +23,8 @@ loop-place-preserved c =
     let within = due_within place line due same in
     (omega (arith, within), c.loop-place.invariant.1 ∙ wrong_later place line lines due there same)
 
-pub returns-then-lines-due-clause-place : goal.returns-then-lines-due-clause-place
-returns-then-lines-due-clause-place c =
+pub returns-then-lines-due : goal.returns-then-lines-due
+returns-then-lines-due c =
     let lines = c.args.lines.now in
     let due = c.args.due.now in
     let place : ℕ = c.loop-place.place in
