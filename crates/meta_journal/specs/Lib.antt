@@ -1,0 +1,7 @@
+pub mod Image
+pub mod Layout
+pub mod Reading
+pub mod Settling
+pub mod Short
+pub mod State
+pub mod Versions
