@@ -1,7 +1,9 @@
 pub mod Adding
 pub mod Images
+pub mod Lists
 pub mod Parts
 pub mod Records
+pub mod Restoring
 pub mod Results
 pub mod Settling
 pub mod Switching

@@ -4,8 +4,10 @@
 mod area;
 mod doubt;
 mod journal;
+mod laws;
 mod reserve;
 
 pub use area::Area;
 pub use doubt::Doubt;
 pub use journal::Journal;
+pub use laws::{short_form_is_small, short_form_restores};
