@@ -6,5 +6,6 @@ pub mod Records
 pub mod Restoring
 pub mod Results
 pub mod Settling
+pub mod Smallness
 pub mod Switching
 mod Worked

@@ -21,7 +21,7 @@ use Rattle.meta_journal.specs.Reading.{Contents, body_at, change_at, records_fro
 use Rattle.meta_journal.specs.Image.{AreLawful}
 
 -- a body is short
-name_short : (name : List ℕ) → IsTrue (is_good_name name) → length name ≤ 64
+pub name_short : (name : List ℕ) → IsTrue (is_good_name name) → length name ≤ 64
 name_short name good = grind (arith, nat_tests, good)
 
 pub body_short : (c : Change) → HasBody c → length (body c) ≤ 120
