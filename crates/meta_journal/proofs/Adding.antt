@@ -23,7 +23,7 @@ use Rattle.meta_journal.specs.Reading.{HasRows, records_from, Contents}
 use Rattle.meta_journal.specs.State.{HasRowsOrAfter, changes_before, changes_in}
 use Rattle.meta_journal.proofs.Images.{image_reads, start_place, count_fits}
 use Rattle.meta_journal.proofs.Parts.{holds_below, holds_above, holds_written, holds_both, holds_inside, holds_front, holds_back, byte_stands, byte_is}
-use Rattle.meta_journal.proofs.Records.{contents, length-body, records_read}
+use Rattle.meta_journal.proofs.Records.{contents, body_is_counted, records_read}
 
 -- Rows and records with one change more
 
@@ -38,7 +38,7 @@ records-push (c ∷ cs) change =
 
 pub records_end-push : (changes : List Change) (change : Change) → records_end (changes ++ change ∷ []) ≡ records_end changes + record_length change
 records_end-push changes change =
-    omega (arith, length-body change, ap length (records-push changes change), length-append (records changes) (1 ∷ record_bytes change))
+    omega (arith, body_is_counted change, ap length (records-push changes change), length-append (records changes) (1 ∷ record_bytes change))
 
 lawful-push : (rows : Rows) (changes : List Change) (change : Change) → AreLawful rows changes
     → IsTrue (is_lawful_change (rows_from rows changes) change) → HasBody change → AreLawful rows (changes ++ change ∷ [])
@@ -84,7 +84,7 @@ longer : (limit : ℕ) (area : Area) (changes : List Change) (change : Change) (
 longer limit area changes change image front is_open record_there =
     let gate = disk_place limit area (records_end changes) in
     let at : gate ≡ area_start limit area + length (records changes) = start_place limit area (length (records changes)) in
-    let size : length (record_bytes change) + 1 ≡ record_length change = omega (arith, length-body change) in
+    let size : length (record_bytes change) + 1 ≡ record_length change = omega (arith, body_is_counted change) in
     let next_gate = gate + 1 + length (record_bytes change) in
     let shut_at : Holds next_gate (0 ∷ []) image = holds_back (gate + 1) (record_bytes change) (0 ∷ []) image record_there in
     let opened : Holds gate (1 ∷ record_bytes change) image =

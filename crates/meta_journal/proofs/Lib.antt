@@ -1,6 +1,7 @@
 pub mod Adding
 pub mod Images
 pub mod Lists
+pub mod Owned
 pub mod Parts
 pub mod Records
 pub mod Restoring
@@ -9,3 +10,4 @@ pub mod Settling
 pub mod Smallness
 pub mod Switching
 mod Worked
+pub mod Writing

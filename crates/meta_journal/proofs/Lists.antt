@@ -9,6 +9,7 @@ use Rattle.std.proofs.lemmas.List.Folds.{list_any_none}
 use Rattle.std.proofs.lemmas.List.Sums.{list_all-from_AllPass}
 use Rattle.std.proofs.Math.Seq.{get_or-append_seam}
 use Rattle.fam_rows.proofs.Searches.{find_none}
+use Rattle.meta_journal.specs.Writing.{Rises}
 
 -- what holds of all pairs, holds of each element in front of one and that one
 pub before_it : {X : Type 0} (R : X → X → Type 0) (xs : List X) (x : X) (ys : List X) → AllPairs R (xs ++ x ∷ ys) → All (λ y. R y x) xs
@@ -27,11 +28,6 @@ at_it {X} P xs x ys all =
 pub with_first_one : {X : Type 0} (xs : List X) (x : X) → slice_get xs 0 ≡ Some x → x ∷ drop 1 xs ≡ xs
 with_first_one [] x first = absurd (cc first)
 with_first_one (y ∷ ys) x first = let same : y ≡ x = cc first in ap (λ z. z ∷ ys) (sym same)
-
--- numbers that rise, and begin at n or above
-abbrev pub Rises : {X : Type 0} → (X → ℕ) → ℕ → List X → Type 0
-Rises number n [] = Unit {0}
-Rises number n (x ∷ xs) = (n ≤ number x) × Rises number (number x + 1) xs
 
 pub rises_on : {X : Type 0} (number : X → ℕ) (n : ℕ) (xs : List X) → All (λ x. n ≤ number x) xs → AllPairs (λ a b. number a < number b) xs → Rises number n xs
 rises_on number n [] least rise = tt

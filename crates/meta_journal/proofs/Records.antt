@@ -35,21 +35,21 @@ body_short (change.SetRegionMode region mode) fits = omega arith
 body_short (change.Skip next_region next_item) fits = omega arith
 
 -- as long as it is counted
-pub length-body : (c : Change) → length (body c) ≡ body_length c
-length-body (change.CreateRegion region uid gid mode size name) = omega (arith, length-append name [])
-length-body (change.DestroyRegion region) = omega arith
-length-body (change.ResizeRegion region size) = omega arith
-length-body (change.Allocate item region base size uid gid mode name) = omega (arith, length-append name [])
-length-body (change.Deallocate item) = omega arith
-length-body (change.SetItemMode item mode) = omega arith
-length-body (change.SetRegionMode region mode) = omega arith
-length-body (change.Skip next_region next_item) = omega arith
+pub body_is_counted : (c : Change) → length (body c) ≡ body_length c
+body_is_counted (change.CreateRegion region uid gid mode size name) = omega (arith, length-append name [])
+body_is_counted (change.DestroyRegion region) = omega arith
+body_is_counted (change.ResizeRegion region size) = omega arith
+body_is_counted (change.Allocate item region base size uid gid mode name) = omega (arith, length-append name [])
+body_is_counted (change.Deallocate item) = omega arith
+body_is_counted (change.SetItemMode item mode) = omega arith
+body_is_counted (change.SetRegionMode region mode) = omega arith
+body_is_counted (change.Skip next_region next_item) = omega arith
 
 -- the place behind records, by their bytes and by their lengths
 pub end_is_place : (changes : List Change) → records_end changes ≡ place_after changes
 end_is_place [] = refl
 end_is_place (c ∷ cs) =
-    omega (arith, end_is_place cs, length-body c, length-append (1 ∷ record_bytes c) (records cs), sum_by-cons record_length c cs)
+    omega (arith, end_is_place cs, body_is_counted c, length-append (1 ∷ record_bytes c) (records cs), sum_by-cons record_length c cs)
 
 body_again : (bytes rest : List ℕ) → length bytes < 2 ^ 32 → 0 < length rest → body_at ((u32 (length bytes) ++ bytes) ++ rest) ≡ Some (bytes, rest)
 unfolding body_at
@@ -87,7 +87,7 @@ records_read (c ∷ cs) (suc most) rows place gate rest shut (lawful, has_body, 
     let tail = records cs ++ gate ∷ rest in
     let behind : 0 < length tail = omega (arith, length-append (records cs) (gate ∷ rest)) in
     let whole : records (c ∷ cs) ++ gate ∷ rest ≡ 1 ∷ (record_bytes c ++ tail) = ap (λ (l : List ℕ). 1 ∷ l) (append_assoc (record_bytes c) (records cs) (gate ∷ rest)) in
-    let size : place + record_length c + length (records cs) ≡ place + length (records (c ∷ cs)) = omega (arith, length-body c, length-append (1 ∷ record_bytes c) (records cs)) in
+    let size : place + record_length c + length (records cs) ≡ place + length (records (c ∷ cs)) = omega (arith, body_is_counted c, length-append (1 ∷ record_bytes c) (records cs)) in
     ap (λ (l : List ℕ). records_from (suc most) false rows place l) whole
     ∙ records_step most rows place c tail lawful has_body behind
     ∙ ap (with_first c) (records_read cs most (after rows c) (place + record_length c) gate rest shut others (omega arith))

@@ -27,7 +27,9 @@ use Rattle.fam_rows.proofs.Standing.{region_is, five_from, three_from, tested}
 use Rattle.meta_codec.specs.Body.{HasBody}
 use Rattle.meta_journal.specs.Image.{AreLawful}
 use Rattle.meta_journal.specs.Short.{Restores}
-use Rattle.meta_journal.proofs.Lists.{before_it, at_it, with_first_one, Rises, rises_on, nothing_found, nothing_kept, all_kept_pass}
+use Rattle.meta_journal.specs.Writing.{Rises}
+use Rattle.meta_journal.proofs.Owned.{own_rise}
+use Rattle.meta_journal.proofs.Lists.{before_it, at_it, with_first_one, nothing_found, nothing_kept, all_kept_pass}
 
 -- changes that are lawful, each on the rows that those before it make, and as wanted
 abbrev pub AreGood : (Change → Type 0) → Rows → List Change → Type 0
@@ -144,12 +146,6 @@ module _ (rows : Rows) (lawful : IsLawful rows) (wanted : Change → Type 0) (sk
       (allocates done row left region split (omega (arith, low, le))) (All-head (λ x. wanted (allocation x)) row left bodies)
       (items_lead (done ++ row ∷ []) left region (item_number row + 1) (append_assoc done (row ∷ []) left ∙ split) (omega arith) (omega (arith, number)) region_bound rise
       (All-tail (λ x. wanted (allocation x)) row left bodies)))
-
-  -- all but the common one
-  own_rise : {X : Type 0} (number : X → ℕ) (xs : List X) (x : X) → slice_get xs 0 ≡ Some x → number x ≡ 0 → AllPairs (λ a b. number a < number b) xs → Rises number 1 (drop 1 xs)
-  own_rise number xs x first zero_is rise =
-      let whole = rises_on number 0 (x ∷ drop 1 xs) (λ k d in_range. omega arith) (subst (λ ys. AllPairs (λ a b. number a < number b) ys) (sym (with_first_one xs x first)) rise) in
-      subst (λ (n : ℕ). Rises number (n + 1) (drop 1 xs)) zero_is whole.1
 
   regions_lead : All (λ row. wanted (allocation row)) (drop 1 rows.items) → (done left : List RegionRow) (next : ℕ) → done ++ left ≡ rows.regions → 1 ≤ next → next ≤ rows.next_region
       → Rises region_number next left → All (λ row. wanted (creation row)) left → Leads wanted (rows_at done (common_item ∷ []) next 1) (short_regions rows next left) rows

@@ -6,3 +6,4 @@ pub mod Settling
 pub mod Short
 pub mod State
 pub mod Versions
+pub mod Writing

@@ -5,7 +5,9 @@ mod area;
 mod doubt;
 mod journal;
 mod laws;
+mod record;
 mod reserve;
+mod short_form;
 
 pub use area::Area;
 pub use doubt::Doubt;

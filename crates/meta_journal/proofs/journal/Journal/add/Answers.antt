@@ -8,7 +8,7 @@ use Rattle.meta_journal.specs.Layout.{record_bytes}
 use Rattle.meta_journal.specs.State.{acknowledged, HasRowsOrAfter}
 use Rattle.meta_journal.specs.declared.doubt.Doubt.{Doubt}
 use Rattle.meta_journal.specs.declared.doubt.Doubt.TheVariants.{Nothing, OfChange}
-use Rattle.meta_journal.proofs.Records.{length-body}
+use Rattle.meta_journal.proofs.Records.{body_is_counted}
 use Rattle.meta_journal.proofs.Results.{on_err}
 use Rattle.meta_journal.proofs.Settling.{still_acknowledged}
 use Rattle.meta_journal.proofs.Adding.{sound_from, known_acknowledged, told_of, told_before, record_fits, record_failed, record_moments, record_written, gate_fits, gate_failed, gate_moments, gate_opened}
@@ -121,7 +121,7 @@ returns-clause-sound g c =
     let tells = c.write_synced-2.ensures.crash.tells ∙ c.write_synced.ensures.crash.tells in
     let run = passing _ S0 S1 S2 (passing _ S0 S0 S1 (started (λ image. Unit {0}) S0 (λ image left. tt)) c.write_synced.ensures.crash) c.write_synced-2.ensures.crash in
     let staged = λ (told : IsSome S0.content). record_written j.limit j.used j.area A change (c.requires.addable told) room c.disk_place-gate.result c.disk_place-gate.ensures c.as_slice.result.now (c.as_slice.ensures ∙ c.args.reserved.spells) S0 S1 (laws.reads_image j.disk) was c.in_ok-write_synced.ensures.synced c.in_ok-write_synced.ensures.written in
-    let need : c.len-need.result ≡ record_length change = omega (arith, length-body change, c.len-need.ensures, ap length c.args.reserved.spells, length-append (record_bytes change) (0 ∷ [])) in
+    let need : c.len-need.result ≡ record_length change = omega (arith, body_is_counted change, c.len-need.ensures, ap length c.args.reserved.spells, length-append (record_bytes change) (0 ∷ [])) in
     let added = λ (told : IsSome S0.content). subst (λ (n : ℕ). Leaves S2 S2.moment (IsImage j.limit (j.used + n) j.area Nothing (A ++ change ∷ []))) (sym need)
     (gate_opened j.limit j.used j.area A change (c.requires.addable told) room c.disk_place-gate.result c.disk_place-gate.ensures c.as_slice.result.now (c.as_slice.ensures ∙ c.args.reserved.spells) S1 S2 (laws.reads_image c.write_synced.new.disk) (staged told) c.in_ok-write_synced-2.ensures.synced c.in_ok-write_synced-2.ensures.written) in
     sound_from S2 j.limit (j.used + c.len-need.result) j.area Nothing (A ++ change ∷ []) (laws.tells_content c.write_synced-2.new.disk) (laws.reads_image c.write_synced-2.new.disk)
@@ -160,7 +160,7 @@ returns-clause-appended g c told =
     let tells = c.write_synced-2.ensures.crash.tells ∙ c.write_synced.ensures.crash.tells in
     let run = passing _ S0 S1 S2 (passing _ S0 S0 S1 (started (λ image. Unit {0}) S0 (λ image left. tt)) c.write_synced.ensures.crash) c.write_synced-2.ensures.crash in
     let staged = λ (told : IsSome S0.content). record_written j.limit j.used j.area A change (c.requires.addable told) room c.disk_place-gate.result c.disk_place-gate.ensures c.as_slice.result.now (c.as_slice.ensures ∙ c.args.reserved.spells) S0 S1 (laws.reads_image j.disk) was c.in_ok-write_synced.ensures.synced c.in_ok-write_synced.ensures.written in
-    let need : c.len-need.result ≡ record_length change = omega (arith, length-body change, c.len-need.ensures, ap length c.args.reserved.spells, length-append (record_bytes change) (0 ∷ [])) in
+    let need : c.len-need.result ≡ record_length change = omega (arith, body_is_counted change, c.len-need.ensures, ap length c.args.reserved.spells, length-append (record_bytes change) (0 ∷ [])) in
     let added = λ (told : IsSome S0.content). subst (λ (n : ℕ). Leaves S2 S2.moment (IsImage j.limit (j.used + n) j.area Nothing (A ++ change ∷ []))) (sym need)
     (gate_opened j.limit j.used j.area A change (c.requires.addable told) room c.disk_place-gate.result c.disk_place-gate.ensures c.as_slice.result.now (c.as_slice.ensures ∙ c.args.reserved.spells) S1 S2 (laws.reads_image c.write_synced.new.disk) (staged told) c.in_ok-write_synced-2.ensures.synced c.in_ok-write_synced-2.ensures.written) in
     known_acknowledged S2 j.limit (j.used + c.len-need.result) j.area Nothing (A ++ change ∷ []) (laws.reads_image c.write_synced-2.new.disk) (added told) (tells ∙ told)
