@@ -1,4 +1,5 @@
 pub mod Adding
+pub mod Appending
 pub mod Images
 pub mod Lists
 pub mod Owned

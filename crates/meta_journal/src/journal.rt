@@ -11,6 +11,8 @@ use fam_model::Change;
 use std::alloc::Global;
 
 mod adding;
+mod appending;
+mod reserving;
 mod settling;
 mod switching;
 
