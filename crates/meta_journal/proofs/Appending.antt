@@ -1,6 +1,6 @@
 -- What a crash leaves while a change is appended, step after step.
-use Rattle.std.proofs.Common.{◌≡◌, ℕ, ◌+◌, ◌<◌, ◌≤◌, inl, inr, Bool, true, false, List, [], ◌∷◌, ◌++◌, length, refl, sym, ◌∙◌, ap, subst, arith, length-append}
-use Rattle.std.specs.Prelude.{◌⊎◌, Option, Some, None, IsSome, IsTrue, is_some}
+use Rattle.std.proofs.Common.{◌≡◌, ℕ, ◌+◌, ◌≤◌, inl, inr, List, [], ◌∷◌, ◌++◌, length, refl, sym, ◌∙◌, ap, subst, arith, length-append}
+use Rattle.std.specs.Prelude.{◌⊎◌, Option, Some, None, IsSome, IsTrue}
 use Rattle.std.proofs.lemmas.Bool.{leb-true, leb-false}
 use Rattle.fam_disk.proofs.Moments.{run_on, weaker}
 use Rattle.fam_disk.specs.Crash.{DiskState, LeavesOnly}
@@ -8,7 +8,7 @@ use Rattle.fam_disk.specs.declared.disk.Disk.{Ghosts}
 use Rattle.fam_model.specs.declared.change.Change.{Change}
 use Rattle.fam_model.specs.declared.rows.Rows.{Rows}
 use Rattle.fam_model.specs.Directory.{after}
-use Rattle.fam_model.specs.Journal.{record_length, rows_of, rows_from, short, short_place}
+use Rattle.fam_model.specs.Journal.{record_length, rows_of, short, short_place}
 use Rattle.fam_model.specs.Lawful.{is_lawful_change}
 use Rattle.fam_model.specs.Rows.{common_rows}
 use Rattle.meta_codec.specs.Body.{HasBody}
@@ -19,7 +19,7 @@ use Rattle.meta_journal.specs.Image.{IsAddable}
 use Rattle.meta_journal.specs.Layout.{records}
 use Rattle.meta_journal.specs.Reading.{HasRows}
 use Rattle.meta_journal.specs.Short.{Restores, short_bytes}
-use Rattle.meta_journal.specs.State.{acknowledged, IsSameJournal, HasRowsInDoubt, HasRowsOrAfter, MayHold, MayGoOn, MayGoOver, changes_behind, place_behind, kept_changes, kept_place, IsForm, IsReserved}
+use Rattle.meta_journal.specs.State.{acknowledged, IsSameJournal, HasRowsInDoubt, HasRowsOrAfter, MayHold, MayGoOn, changes_behind, place_behind, kept_changes, kept_place, IsForm, IsReserved}
 use Rattle.meta_journal.proofs.Adding.{rows_from-push}
 use Rattle.meta_journal.proofs.Records.{body_short, body_is_counted, end_is_place}
 
@@ -61,7 +61,7 @@ addable_still old new change same addable = subst (λ (rows : Rows). IsTrue (is_
 
 -- The form that is written first
 
-form_length : (rows : Rows) (form : List ℕ) → form ≡ short_bytes rows → 15 + length form ≡ short_place rows
+pub form_length : (rows : Rows) (form : List ℕ) → form ≡ short_bytes rows → 15 + length form ≡ short_place rows
 form_length rows form is = omega (arith, ap length is, length-append (records (short rows)) (0 ∷ []), end_is_place (short rows))
 
 pub place_is : (limit used : ℕ) (rows : Rows) (change : Change) (form : Option (List ℕ)) → IsForm limit used rows change form → place_behind form used ≡ kept_place limit used rows change

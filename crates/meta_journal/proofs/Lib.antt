@@ -5,6 +5,7 @@ pub mod Lists
 pub mod Owned
 pub mod Parts
 pub mod Records
+pub mod Reserving
 pub mod Restoring
 pub mod Results
 pub mod Settling

@@ -1,11 +1,10 @@
 -- Worked journals, computed.
-use Rattle.std.proofs.Common.{◌≡◌, ℕ, ◌+◌, Bool, true, false, List, [], ◌∷◌, ◌++◌, length, take, refl}
-use Rattle.std.specs.Prelude.{Option, Some, None, Result, Ok, Err, codes, slice_set}
+use Rattle.std.proofs.Common.{◌≡◌, ℕ, ◌+◌, List, [], ◌∷◌, ◌++◌, length, take, refl}
+use Rattle.std.specs.Prelude.{Result, Ok, Err, codes}
 use Rattle.fam_model.specs.declared.change.Change.{Change}
 use Rattle.fam_model.specs.declared.change.Change.TheVariants as change
 use Rattle.fam_model.specs.Journal.{record_length, rows_of, short, short_place}
-use Rattle.meta_codec.specs.Reading.{decoded, number_at, passing, bytes_at, whole, create_region_at, destroy_region_at, skip_at}
-use Rattle.meta_journal.specs.Layout.{magic}
+use Rattle.meta_codec.specs.Reading.{number_at, passing, bytes_at, whole, create_region_at}
 use Rattle.meta_journal.specs.Reading.{Contents, journal, body_at, change_at}
 
 abbrev region : ℕ → List ℕ → Change

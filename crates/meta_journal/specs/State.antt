@@ -3,7 +3,7 @@ use Rattle.std.specs.Prelude.{◌≡◌, ◌⊎◌, ℕ, ◌+◌, ◌-◌, ◌<�
 use Rattle.fam_base.specs.declared.error.FamError.{FamError}
 use Rattle.fam_base.specs.declared.error.FamError.TheVariants.{Memory, JournalFull}
 use Rattle.fam_disk.specs.declared.disk.Disk.{Ghosts}
-use Rattle.fam_disk.specs.Crash.{DiskState, Leaves}
+use Rattle.fam_disk.specs.Crash.{Leaves}
 use Rattle.fam_model.specs.declared.change.Change.{Change}
 use Rattle.fam_model.specs.declared.rows.Rows.{Rows}
 use Rattle.fam_model.specs.Directory.{after}

@@ -1,12 +1,10 @@
-use Rattle.std.proofs.Common.{◌≡◌, ◌+◌, ◌≤◌, ◌++◌, [], ◌∷◌, ℕ, List, inl, inr, ap, sym, ◌∙◌, subst}
-use Rattle.std.specs.Prelude.{◌⊎◌, Some, IsSome}
+use Rattle.std.proofs.Common.{◌≡◌, ◌+◌, ◌≤◌, ◌++◌, [], ◌∷◌, ℕ, ap, sym, ◌∙◌, subst}
+use Rattle.std.specs.Prelude.{◌⊎◌, Some}
 use Rattle.fam_disk.specs.Crash.{Leaves, LeavesOnly}
 use Rattle.fam_model.specs.declared.change.Change.{Change}
-use Rattle.fam_model.specs.declared.rows.Rows.{Rows}
-use Rattle.fam_model.specs.Directory.{after}
-use Rattle.fam_model.specs.Journal.{record_length, rows_of}
+use Rattle.fam_model.specs.Journal.{record_length}
 use Rattle.meta_journal.specs.Image.{IsImage}
-use Rattle.meta_journal.specs.State.{acknowledged, IsReserved, MayHold, changes_behind, place_behind, kept_place}
+use Rattle.meta_journal.specs.State.{acknowledged, MayHold, changes_behind, place_behind}
 use Rattle.meta_journal.specs.declared.doubt.Doubt.{Doubt}
 use Rattle.meta_journal.specs.declared.doubt.Doubt.TheVariants.{Nothing}
 use Rattle.meta_journal.proofs.Appending.{may_begin, place_is, reserved_is, room_behind, rows_then}
@@ -36,7 +34,7 @@ returns-in-Ok-clause-images g c image left =
     let A = acknowledged new in
     let S = g.D.Disk.state new.disk in
     let now : Leaves S S.moment (IsImage new.limit new.used new.area Nothing A) =
-        subst (λ (d : Doubt). Leaves S S.moment (IsImage new.limit new.used new.area d A)) c.in-Ok.ensures.settled c.in-Ok.ensures.sound in
+    subst (λ (d : Doubt). Leaves S S.moment (IsImage new.limit new.used new.area d A)) c.in-Ok.ensures.settled c.in-Ok.ensures.sound in
     reads_in_doubt new.limit new.used new.area A Nothing image (now image left)
 
 pub returns-in-Ok-clause-rows : goal.returns-in-Ok-clause-rows

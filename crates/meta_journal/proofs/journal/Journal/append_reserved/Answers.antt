@@ -1,5 +1,4 @@
-use Rattle.std.proofs.Common.{◌≡◌, List, ap, sym, ◌∙◌}
-use Rattle.fam_disk.specs.Crash.{LeavesOnly}
+use Rattle.std.proofs.Common.{ap, sym, ◌∙◌}
 use Rattle.fam_model.specs.Journal.{rows_of}
 use Rattle.meta_journal.specs.State.{acknowledged}
 use Rattle.meta_journal.proofs.Appending.{may_go_on, settled_so_far, room_so_far, added_so_far}
@@ -37,7 +36,7 @@ returns-in_err-add-clause-any_moment g c =
     let change = c.args.reserve.record.change in
     let A = acknowledged j in
     let so_far = room_so_far j.limit A j.doubt change S0 S1 S2 c.settle_doubt.new.self.limit (acknowledged c.settle_doubt.new.self) settled.same.limit (ap rows_of settled.acknowledged)
-        (settled_so_far j.limit A j.doubt change S0 S1 settled.any_moment) room.any_moment in
+    (settled_so_far j.limit A j.doubt change S0 S1 settled.any_moment) room.any_moment in
     added_so_far j.limit A j.doubt change S0 S2 S3 c.make_room.new.self.limit (acknowledged c.make_room.new.self) (room.limit ∙ settled.same.limit) (room.same_rows ∙ ap rows_of settled.acknowledged)
     so_far c.add.ensures.any_moment
 
@@ -54,6 +53,6 @@ returns-clause-any_moment g c =
     let change = c.args.reserve.record.change in
     let A = acknowledged j in
     let so_far = room_so_far j.limit A j.doubt change S0 S1 S2 c.settle_doubt.new.self.limit (acknowledged c.settle_doubt.new.self) settled.same.limit (ap rows_of settled.acknowledged)
-        (settled_so_far j.limit A j.doubt change S0 S1 settled.any_moment) room.any_moment in
+    (settled_so_far j.limit A j.doubt change S0 S1 settled.any_moment) room.any_moment in
     added_so_far j.limit A j.doubt change S0 S2 S3 c.make_room.new.self.limit (acknowledged c.make_room.new.self) (room.limit ∙ settled.same.limit) (room.same_rows ∙ ap rows_of settled.acknowledged)
     so_far c.add.ensures.any_moment

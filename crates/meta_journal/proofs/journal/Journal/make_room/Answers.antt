@@ -1,4 +1,4 @@
-use Rattle.std.proofs.Common.{◌≡◌, ℕ, List, subst}
+use Rattle.std.proofs.Common.{subst}
 use Rattle.fam_disk.specs.Crash.{Leaves}
 use Rattle.fam_disk.proofs.Moments.{started}
 use Rattle.fam_model.specs.Journal.{rows_of}
