@@ -15,6 +15,8 @@ mod appending;
 mod reserving;
 mod settling;
 mod switching;
+#[cfg(test)]
+mod tests;
 
 /// The journal of a directory, on a disk.
 #[derive(Drop)]
