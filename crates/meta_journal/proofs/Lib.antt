@@ -11,5 +11,5 @@ pub mod Results
 pub mod Settling
 pub mod Smallness
 pub mod Switching
-mod Worked
+pub mod Worked
 pub mod Writing

@@ -6,4 +6,5 @@ pub mod Settling
 pub mod Short
 pub mod State
 pub mod Versions
+pub mod Worked
 pub mod Writing

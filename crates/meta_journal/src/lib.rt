@@ -12,4 +12,4 @@ mod short_form;
 pub use area::Area;
 pub use doubt::Doubt;
 pub use journal::Journal;
-pub use laws::{short_form_is_small, short_form_restores};
+pub use laws::{short_form_is_small, short_form_restores, worked_journals};
