@@ -1,0 +1,15 @@
+//! The journal of directory changes, in two areas of a disk.
+#![tactic(auto)]
+
+mod area;
+mod doubt;
+mod journal;
+mod laws;
+mod record;
+mod reserve;
+mod short_form;
+
+pub use area::Area;
+pub use doubt::Doubt;
+pub use journal::Journal;
+pub use laws::{short_form_is_small, short_form_restores, worked_journals};
