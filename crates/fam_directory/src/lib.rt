@@ -1,0 +1,10 @@
+//! The directory with indexes: names, rows by their numbers, and the room of each region.
+#![tactic(auto)]
+
+mod directory;
+mod names;
+mod refusing;
+mod region;
+mod searching;
+
+pub use directory::Directory;
