@@ -1,5 +1,5 @@
 -- What the directory keeps beside its rows.
-use Rattle.std.specs.Prelude.{◌≡◌, ℕ, ◌<◌, true, List, [], map, All, Option, Some, None, Vec}
+use Rattle.std.specs.Prelude.{◌≡◌, ℕ, ◌<◌, Bool, true, false, List, [], map, All, Option, Some, None, Vec}
 use Rattle.std.specs.Option.{option_map}
 use Rattle.std.specs.Vec.{vec_len, vec_capacity}
 use Rattle.fam_base.specs.declared.naming.RegionId.{RegionId}
@@ -23,12 +23,26 @@ pub record Listing : Type 0 where
   pub rows : Rows
   pub coming : Option NewName
 
+-- the name of a new row
+abbrev pub waits_for : Option ℕ → List ℕ → NewName
+waits_for region name = record { region = region; name = name }
+
+-- the change adds a region
+abbrev pub adds_region : Change → Bool
+adds_region (change.CreateRegion region uid gid mode size name) = true
+adds_region _ = false
+
+-- the change adds an item
+abbrev pub adds_item : Change → Bool
+adds_item (change.Allocate item region base size uid gid mode name) = true
+adds_item _ = false
+
 -- the change takes no memory: the memory for the row that it adds, if it adds one, is held
 abbrev pub IsReserved : Listing → Change → Type 0
 IsReserved listing (change.CreateRegion region uid gid mode size name) =
-    listing.coming ≡ Some (record { region = None; name = name })
+    listing.coming ≡ Some (waits_for None name)
 IsReserved listing (change.Allocate item region base size uid gid mode name) =
-    listing.coming ≡ Some (record { region = Some region.0; name = name })
+    listing.coming ≡ Some (waits_for (Some region.0) name)
 IsReserved listing _ = Unit {0}
 
 -- the rows, from the lists in which they lie

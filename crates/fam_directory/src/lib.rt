@@ -1,6 +1,7 @@
 //! The directory with indexes: names, rows by their numbers, and the room of each region.
 #![tactic(auto)]
 
+mod changing;
 mod directory;
 mod names;
 mod refusing;
