@@ -1,3 +1,4 @@
+pub mod Adding
 pub mod Changed
 pub mod Destroyed
 pub mod Indexes
@@ -5,3 +6,4 @@ pub mod Lookups
 pub mod Moves
 pub mod Naming
 pub mod Placed
+pub mod Steps

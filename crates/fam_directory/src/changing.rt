@@ -1,6 +1,7 @@
 //! Changes of the rows.
 
-ghost use Rattle.std.specs.Prelude.{◌≡◌, true, None, Some, OnOk, IsTrue};
+ghost use Rattle.std.specs.Prelude.{◌≡◌, ◌==◌, not, true, None, Some, OnOk, IsTrue};
+ghost use Rattle.std.specs.List.{filter};
 ghost use Rattle.fam_model.specs.Directory as words;
 ghost use Rattle.fam_model.specs.Lawful.{is_lawful_change};
 ghost use Rattle.fam_model.specs.Lists.{is_some_and};
@@ -13,6 +14,13 @@ use crate::region::{Coming, Region, take_coming};
 use crate::searching::{item_there, place_there};
 use fam_base::{ItemId, Mode, NoMemory, RegionId};
 use fam_model::{Change, ItemRow, RegionRow};
+
+/// Takes the items of a region out.
+fn drop_items(items: &mut Vec<ItemRow>, region: RegionId)
+    ensures { items.new.items ≡ filter (λ item. not (item.region.0 == region.0)) items.old.items }
+{
+    items.retain(|item| item.region.0 != region.0);
+}
 
 impl Directory {
     /// Takes the memory that a change needs.
@@ -29,7 +37,6 @@ impl Directory {
     }
 
     /// Takes the memory for one more region.
-    #[tactic(none)]
     fn reserve_region(&mut self, name: &[u8]) -> Result<(), NoMemory>
         ensures rows { self.new.rows ≡ self.old.rows }
         ensures ready { OnOk result (self.new.coming ≡ Some (waits_for None name.now)) }
@@ -43,7 +50,6 @@ impl Directory {
     }
 
     /// Takes the memory for one more item.
-    #[tactic(none)]
     fn reserve_item(&mut self, region: RegionId, name: &[u8]) -> Result<(), NoMemory>
         requires { is_some_and (region_of self.old.rows region.0) (λ row. true) ≡ true }
         ensures rows { self.new.rows ≡ self.old.rows }
@@ -80,7 +86,6 @@ impl Directory {
     }
 
     /// Adds a region.
-    #[tactic(none)]
     fn create_region(&mut self, change: &Change)
         requires adds { adds_region change.now ≡ true }
         requires lawful { IsTrue (is_lawful_change self.old.rows change.now) }
@@ -118,7 +123,6 @@ impl Directory {
     }
 
     /// Adds an item.
-    #[tactic(none)]
     fn allocate(&mut self, change: &Change)
         requires adds { adds_item change.now ≡ true }
         requires lawful { IsTrue (is_lawful_change self.old.rows change.now) }
@@ -160,7 +164,6 @@ impl Directory {
     }
 
     /// Takes a region and its items away.
-    #[tactic(none)]
     fn destroy_region(&mut self, number: RegionId)
         requires { IsTrue (is_lawful_change self.old.rows (change.DestroyRegion number)) }
         ensures { self.new.rows ≡ words.after self.old.rows (change.DestroyRegion number) }
@@ -170,11 +173,10 @@ impl Directory {
         let region = self.regions.remove(place);
         self.names.remove(region.row.name.as_slice());
         self.total -= region.row.size;
-        self.items.retain(|item| item.region.0 != number.0);
+        drop_items(&mut self.items, number);
     }
 
     /// Takes an item away.
-    #[tactic(none)]
     fn deallocate(&mut self, number: ItemId)
         requires { IsTrue (is_lawful_change self.old.rows (change.Deallocate number)) }
         ensures { self.new.rows ≡ words.after self.old.rows (change.Deallocate number) }
@@ -187,7 +189,6 @@ impl Directory {
     }
 
     /// Gives a region another size.
-    #[tactic(none)]
     fn resize_region(&mut self, number: RegionId, size: u64)
         requires { IsTrue (is_lawful_change self.old.rows (change.ResizeRegion number size)) }
         ensures { self.new.rows ≡ words.after self.old.rows (change.ResizeRegion number size) }
@@ -200,7 +201,6 @@ impl Directory {
     }
 
     /// Gives a region another mode.
-    #[tactic(none)]
     fn set_region_mode(&mut self, number: RegionId, mode: Mode)
         requires { IsTrue (is_lawful_change self.old.rows (change.SetRegionMode number mode)) }
         ensures { self.new.rows ≡ words.after self.old.rows (change.SetRegionMode number mode) }
@@ -211,7 +211,6 @@ impl Directory {
     }
 
     /// Gives an item another mode.
-    #[tactic(none)]
     fn set_item_mode(&mut self, number: ItemId, mode: Mode)
         requires { IsTrue (is_lawful_change self.old.rows (change.SetItemMode number mode)) }
         ensures { self.new.rows ≡ words.after self.old.rows (change.SetItemMode number mode) }
@@ -222,7 +221,6 @@ impl Directory {
     }
 
     /// Passes over numbers.
-    #[tactic(none)]
     fn skip(&mut self, next_region: u64, next_item: u64)
         requires { IsTrue (is_lawful_change self.old.rows (change.Skip next_region next_item)) }
         ensures { self.new.rows ≡ words.after self.old.rows (change.Skip next_region next_item) }
