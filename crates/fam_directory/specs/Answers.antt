@@ -1,12 +1,13 @@
 -- What the directory answers.
-use Rattle.std.specs.Prelude.{◌≡◌, ◌⊎◌, ℕ, Bool, true, false, Option, Some, None, Result, Ok, Err}
+use Rattle.std.specs.Prelude.{◌≡◌, ◌⊎◌, ℕ, Bool, true, false, List, Option, Some, None, Result, Ok, Err}
 use Rattle.fam_base.specs.declared.error.FamError.{FamError}
 use Rattle.fam_base.specs.declared.error.FamError.TheVariants.{Memory}
+use Rattle.fam_base.specs.declared.naming.RegionId.{RegionId}
 use Rattle.fam_model.specs.declared.request.Request.{Request}
 use Rattle.fam_model.specs.declared.request.Request.TheVariants as request
 use Rattle.fam_model.specs.declared.rows.Rows.{Rows}
 use Rattle.fam_model.specs.Lists.{◌>>=◌}
-use Rattle.fam_model.specs.Rows.{region_of, least_base}
+use Rattle.fam_model.specs.Rows.{region_of, region_named, least_base}
 
 -- the request changes the rows, where it is served
 abbrev pub makes_change : Request → Bool
@@ -31,3 +32,9 @@ abbrev pub least_in : Rows → ℕ → ℕ → Option ℕ
 least_in rows region n = do
   row ← region_of rows region
   least_base rows row n
+
+-- the number of the region of a name
+abbrev pub region_found : Rows → List ℕ → Option RegionId
+region_found rows name = do
+  row ← region_named rows name
+  Some row.number

@@ -42,6 +42,11 @@ impl Model for Directory {
 }
 
 impl Directory {
+    /// Where memory is taken.
+    pub(crate) fn alloc(&self) -> Global {
+        self.alloc
+    }
+
     /// A region with its index.
     fn entry(&self, number: RegionId) -> Option<&Region>
         ensures entry { IsEntry self.now.rows number.0 (option_copied result) }

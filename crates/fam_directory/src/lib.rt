@@ -2,7 +2,9 @@
 #![tactic(auto)]
 
 mod changing;
+mod copying;
 mod directory;
+mod finding;
 mod names;
 mod refusing;
 mod region;
