@@ -119,8 +119,7 @@ add_step regions items left a b next k item key x now rise all unnamed fitting a
     let placed = new_place regions items a b k item.region item.base item.size x all fitting at lt is in
     let here : number_of x ≡ item.region.0 = ap number_of is ∙ number_at regions item.region.0 k x at lt in
     let parts = three_parts (eqb (item.base % 64) 0) (leb (item.base + room item.size) x.row.size) (list_all (is_beside item.size item.base) (items_in rows (region_number x.row))) placed.1 in
-    let index = index_grown rows (rows_of (set regions k now) left a next) x now item grown here unnamed parts.2 row (λ q. added q ∙ ap (λ n. cond (bytes_eq n q) (Some item.number.0) (named q x.items)) same) space rooms placed.0 in
-    (
+    let index = index_grown rows (rows_of (set regions k now) left a next) x now item grown here unnamed parts.2 row (λ q. added q ∙ ap (λ n. cond (bytes_eq n q) (Some item.number.0) (named q x.items)) same) space rooms placed.0 in (
       indexes_grown rows (rows_of (set regions k now) left a next) regions k now item rise grown lt (number_at regions item.region.0 k now at lt) all index,
       map_set_same (λ (r : Region). r.row) k regions now lt (row ∙ sym (ap (λ (r : Region). r.row) (read_at regions k x now lt is))),
     )
@@ -134,8 +133,7 @@ allocate_step regions items left a b k total names i n base size uid gid mode na
     let facts = new_item rows i n base size uid gid mode name ok in
     let grown_by : left ≡ items ++ item ∷ [] = grown ∙ ap (λ l. let t : ItemRow = record { number = i; region = n; base = base; size = size; uid = uid; gid = gid; mode = mode; name = l } in items ++ t ∷ []) labelled in
     let step = add_step regions items left a b (i.0 + 1) k item key x now (rises number_of regions (numbers_rise regions h.lawful.region_numbers_rise)) h.indexes facts.1 facts.2 at lt is grown_by row same added space rooms in
-    let equal : rows_of (set regions k now) left a (i.0 + 1) ≡ after rows (change.Allocate i n base size uid gid mode name) = (λ j. let t : Rows = record { regions = step.1 j; items = grown_by j; next_region = a; next_item = i.0 + 1 } in t) in
-    (
+    let equal : rows_of (set regions k now) left a (i.0 + 1) ≡ after rows (change.Allocate i n base size uid gid mode name) = (λ j. let t : Rows = record { regions = step.1 j; items = grown_by j; next_region = a; next_item = i.0 + 1 } in t) in (
       record {
         lawful = subst IsLawful (sym equal) (keeps_law rows (change.Allocate i n base size uid gid mode name) h.lawful ok);
         by_name = λ q. h.by_name q ∙ ap (λ l. option_map region_number (find (λ (s : RegionRow). bytes_eq s.name q) l)) (sym step.1);
@@ -167,12 +165,11 @@ ready_step regions items a b n k total names x now h at lt is row found space ro
     let old = read_at regions k x now lt is in
     let row_is : now.row ≡ (get_or regions k now).row = row ∙ sym (ap (λ (r : Region). r.row) old) in
     let equal : rows_of (set regions k now) items a b ≡ rows_of regions items a b = ap (λ (l : List RegionRow). let t : Rows = record { regions = l; items = items; next_region = a; next_item = b } in t) (map_set_same (λ (r : Region). r.row) k regions now lt row_is) in
-    let size = ap (λ (r : RegionRow). r.size) row_is in
-    (
+    let size = ap (λ (r : RegionRow). r.size) row_is in (
       replaced regions items a b n k total total names now h lt (number_at regions n k now at lt) (ap region_number row_is) (ap (λ (r : RegionRow). r.name) row_is)
-      (λ q. found q ∙ sym (ap (λ (r : Region). named q r.items) old))
-      (space ∙ sym (ap (λ (r : Region). r.room.size) old) ∙ (h.indexes k now lt).space.same_size ∙ sym size)
-      (rooms ∙ sym (ap (λ (r : Region). r.room.rooms) old)) (omega (arith, size)) (subst IsLawful (sym equal) h.lawful),
+          (λ q. found q ∙ sym (ap (λ (r : Region). named q r.items) old))
+          (space ∙ sym (ap (λ (r : Region). r.room.size) old) ∙ (h.indexes k now lt).space.same_size ∙ sym size)
+          (rooms ∙ sym (ap (λ (r : Region). r.room.rooms) old)) (omega (arith, size)) (subst IsLawful (sym equal) h.lawful),
       equal,
     )
 

@@ -40,9 +40,9 @@ pub has_place_there : (regions : List Region) (items : List ItemRow) (a b n : �
 has_place_there regions items a b n test there =
     let found = value_tested (region_of (rows_of regions items a b) n) test there in
     by (place_of number_of n regions) refl (sym (region_of_is regions items a b n) ∙ found.1) where
-  by : (o : Option ℕ) → place_of number_of n regions ≡ o → {row : RegionRow} → option_map (λ (r : Region). r.row) (place_of number_of n regions >>= λ k. slice_get regions k) ≡ Some row → is_some (place_of number_of n regions) ≡ true
-  by None is e = absurd (cc (sym (ap (λ o. option_map (λ (r : Region). r.row) (o >>= λ k. slice_get regions k)) is) ∙ e))
-  by (Some k) is e = ap is_some is
+      by : (o : Option ℕ) → place_of number_of n regions ≡ o → {row : RegionRow} → option_map (λ (r : Region). r.row) (place_of number_of n regions >>= λ k. slice_get regions k) ≡ Some row → is_some (place_of number_of n regions) ≡ true
+      by None is e = absurd (cc (sym (ap (λ o. option_map (λ (r : Region). r.row) (o >>= λ k. slice_get regions k)) is) ∙ e))
+      by (Some k) is e = ap is_some is
 
 -- what stands at the place has the number
 pub number_at : (regions : List Region) (n k : ℕ) (d : Region) → place_of number_of n regions ≡ Some k → k < length regions → number_of (get_or regions k d) ≡ n
@@ -143,7 +143,7 @@ created regions items a b total names new_names n uid gid mode size name now h o
       indexes = All-push (IsIndexOf new) regions now
           (λ k d lt. index_kept rows new (get_or regions k d) refl (h.indexes k d lt))
           (record {
-          names = λ q. nothing q ∙ sym (ap (λ l. option_map item_number (find (λ r. bytes_eq r.name q) l)) empty);
-          space = record { same_size = same_size; same_rooms = λ test. ap (list_all test) rooms ∙ sym (ap (list_all (λ item. test (room_of item))) empty) };
-        });
+            names = λ q. nothing q ∙ sym (ap (λ l. option_map item_number (find (λ r. bytes_eq r.name q) l)) empty);
+            space = record { same_size = same_size; same_rooms = λ test. ap (list_all test) rooms ∙ sym (ap (list_all (λ item. test (room_of item))) empty) };
+          });
     }

@@ -71,9 +71,9 @@ destroyed regions items a b k total new_total names new_names n gone h ok lt is 
           ∙ ap (number_in (λ (r : RegionRow). r.name) region_number q) (sym left);
       sum =
           (let one = sum_removed (λ (r : RegionRow). r.size) k (map (λ (r : Region). r.row) regions) gone.row long row_is in
-           let total_is = h.sum in
-           let same = ap (sum_by (λ (r : RegionRow). r.size)) (cut ∙ sym left) in
-           omega (arith, one, total_is, same, sum));
+          let total_is = h.sum in
+          let same = ap (sum_by (λ (r : RegionRow). r.size)) (cut ∙ sym left) in
+          omega (arith, one, total_is, same, sum));
       indexes = subst (All (IsIndexOf new)) (sym (removed_is number_of n.0 k regions gone rise lt number)) (λ j d within.
           let stays : Region → Bool = λ r. not (eqb (number_of r) n.0) in
           let r = get_or (filter stays regions) j d in

@@ -49,6 +49,7 @@ number_in_alike {A} name number q xs ys same = by xs ∙ ap (λ l. option_map (�
   inner : {A : Type 0} (name : A → List ℕ) (number : A → ℕ) (o : Option A) → option_map number o ≡ option_map (λ (e : NameEntry). e.number) (option_map (λ x. let e : NameEntry = record { name = name x; number = number x } in e) o)
   inner name number None = refl
   inner name number (Some x) = refl
+
   by : (l : List A) → number_in name number q l ≡ option_map (λ (e : NameEntry). e.number) (find (λ (e : NameEntry). bytes_eq e.name q) (map (λ x. let e : NameEntry = record { name = name x; number = number x } in e) l))
   by l = inner name number (find (λ x. bytes_eq (name x) q) l) ∙ sym (ap (option_map (λ (e : NameEntry). e.number)) (find_map (λ x. let e : NameEntry = record { name = name x; number = number x } in e) (λ e. bytes_eq e.name q) l))
 
@@ -76,10 +77,10 @@ replaced regions items a b n k total new_total names now h lt is number name fou
       by_name = λ q. h.by_name q ∙ number_in_alike (λ (r : RegionRow). r.name) region_number q (map (λ (r : Region). r.row) regions) (map (λ (r : Region). r.row) (set regions k now)) alike;
       sum =
           (let sums = sum_by-set (λ (r : RegionRow). r.size) (map (λ (r : Region). r.row) regions) k now.row now.row (omega (arith, length-map regions (λ (r : Region). r.row))) in
-           let before = ap (λ (r : RegionRow). r.size) (get_or-map (λ (r : Region). r.row) regions k now now.row lt) in
-           let all = ap (sum_by (λ (r : RegionRow). r.size)) (map-set (λ (r : Region). r.row) regions k now) in
-           let total_is = h.sum in
-           omega (arith, sums, before, all, total_is, sum));
+          let before = ap (λ (r : RegionRow). r.size) (get_or-map (λ (r : Region). r.row) regions k now now.row lt) in
+          let all = ap (sum_by (λ (r : RegionRow). r.size)) (map-set (λ (r : Region). r.row) regions k now) in
+          let total_is = h.sum in
+          omega (arith, sums, before, all, total_is, sum));
       indexes = set_all number_of (IsIndexOf (rows_of regions items a b)) (IsIndexOf new) n k regions now rise lt is h.indexes
           (λ r other hr. index_kept (rows_of regions items a b) new r refl hr)
           (index_stays (rows_of regions items a b) new old now number found size rooms refl (h.indexes k now lt));
@@ -132,23 +133,24 @@ around test base (x ∷ xs) none =
         | inr high ↦ rw (le-ltb x.base base (omega arith), lt-ltb base x.base high) (middle _ (test x) _ ∙ ap (λ t. test x && t) rest)
       ]
     ] where
-  assoc : (a b c : Bool) → ((a && b) && c) ≡ (a && (b && c))
-  assoc true b c = refl
-  assoc false b c = refl
-  middle : (a b c : Bool) → (a && (b && c)) ≡ (b && (a && c))
-  middle true true c = refl
-  middle true false c = refl
-  middle false true c = refl
-  middle false false c = refl
+      assoc : (a b c : Bool) → ((a && b) && c) ≡ (a && (b && c))
+      assoc true b c = refl
+      assoc false b c = refl
+
+      middle : (a b c : Bool) → (a && (b && c)) ≡ (b && (a && c))
+      middle true true c = refl
+      middle true false c = refl
+      middle false true c = refl
+      middle false false c = refl
 
 pub with_room_all : (test : Extent → Bool) (base n : ℕ) (rooms : List Extent) → list_all (λ r. not (eqb r.base base)) rooms ≡ true → list_all test (with_room base n rooms) ≡ (list_all test rooms && test (room_at base n))
 with_room_all test base n rooms none =
     list_all-append test (filter (λ r. ltb r.base base) rooms) (room_at base n ∷ filter (λ r. ltb base r.base) rooms)
     ∙ turn (list_all test (filter (λ r. ltb r.base base) rooms)) (test (room_at base n)) (list_all test (filter (λ r. ltb base r.base) rooms))
     ∙ ap (λ t. t && test (room_at base n)) (around test base rooms none) where
-  turn : (a b c : Bool) → (a && (b && c)) ≡ ((a && c) && b)
-  turn true true true = refl
-  turn true true false = refl
-  turn true false true = refl
-  turn true false false = refl
-  turn false b c = refl
+      turn : (a b c : Bool) → (a && (b && c)) ≡ ((a && c) && b)
+      turn true true true = refl
+      turn true true false = refl
+      turn true false true = refl
+      turn true false false = refl
+      turn false b c = refl

@@ -1,5 +1,6 @@
 pub mod Adding
 pub mod Changed
+pub mod Chosen
 pub mod Destroyed
 pub mod Indexes
 pub mod Lookups
@@ -7,3 +8,4 @@ pub mod Moves
 pub mod Naming
 pub mod Placed
 pub mod Steps
+pub mod TakenOver

@@ -90,8 +90,8 @@ pub found_by_number : {A : Type 0} (number : A → ℕ) (p q : A → Bool) (xs :
 found_by_number number p q [] x h e = absurd (cc e)
 found_by_number {A} number p q (y ∷ ys) x h e =
     let later : find p (filter q ys) ≡ Some x → find (λ z. eqb (number z) (number x)) (y ∷ ys) ≡ Some x = λ (found : find p (filter q ys) ≡ Some x).
-        (let below : number y < number x = All_found (λ z. number y < number z) p (filter q ys) x (All-filter q (λ z. number y < number z) ys (head_below number y ys h)) found in
-         rw (ne_eqb (number y) (number x) (λ same. absurd (omega arith))) (found_by_number number p q ys x (tail_rises number y ys h) found)) in
+    (let below : number y < number x = All_found (λ z. number y < number z) p (filter q ys) x (All-filter q (λ z. number y < number z) ys (head_below number y ys h)) found in
+    rw (ne_eqb (number y) (number x) (λ same. absurd (omega arith))) (found_by_number number p q ys x (tail_rises number y ys h) found)) in
     elim (cases_Bool (q y)) [
       | inl kept ↦ elim (cases_Bool (p y)) [
         | inl holds ↦

@@ -93,7 +93,7 @@ one_passes p q (suc k) (x ∷ xs) d lt kept passes =
     let within : k < length xs = omega arith in
     let rest = one_passes p q k xs d within kept passes in
     elim (cases_Bool (q x)) [
-      | inl here ↦ rw here (elim (cases_Bool (p x)) [ | inl holds ↦ rw holds refl | inr fails ↦ rw fails rest ])
+      | inl here ↦ rw here (elim (cases_Bool (p x)) [ inl holds ↦ rw holds refl | inr fails ↦ rw fails rest ])
       | inr dropped ↦ rw dropped rest
     ]
 

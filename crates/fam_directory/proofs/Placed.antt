@@ -61,10 +61,10 @@ index_grown rows new old now item grown here unnamed beside row added size rooms
             ∙ ap (list_all (λ (x : ItemRow). test (room_of x))) list;
       };
     } where
-  and_last : (a b : Bool) → (a && b) ≡ (a && (b && true))
-  and_last true true = refl
-  and_last true false = refl
-  and_last false b = refl
+      and_last : (a b : Bool) → (a && b) ≡ (a && (b && true))
+      and_last true true = refl
+      and_last true false = refl
+      and_last false b = refl
 
 -- all regions once one of them has a new item
 pub indexes_grown : (rows new : Rows) (regions : List Region) (k : ℕ) (now : Region) (item : ItemRow) → AllPairs (λ a b. number_of a < number_of b) regions → new.items ≡ rows.items ++ item ∷ [] → k < length regions → number_of (get_or regions k now) ≡ item.region.0 → All (IsIndexOf rows) regions → IsIndexOf new now → All (IsIndexOf new) (set regions k now)
@@ -79,7 +79,7 @@ IsOther x y = (y ≡ x) ⊎ ((item_number y ≢ item_number x) × (y.region ≡ 
 
 -- rooms that are apart begin apart
 begin_apart : (x y : ItemRow) → (room_end x ≤ y.base) ⊎ (room_end y ≤ x.base) → y.base ≢ x.base
-begin_apart x y apart same = elim apart [ | inl le ↦ absurd (omega arith) | inr le ↦ absurd (omega arith) ]
+begin_apart x y apart same = elim apart [ inl le ↦ absurd (omega arith) | inr le ↦ absurd (omega arith) ]
 
 pub all_others : (rows : Rows) → IsLawful rows → (k : ℕ) (x : ItemRow) → k < length rows.items → x ≡ get_or rows.items k x → All (IsOther x) rows.items
 all_others rows lawful k x lt is j d within = elim (cases_eq j k) [
@@ -89,16 +89,21 @@ all_others rows lawful k x lt is j d within = elim (cases_eq j k) [
       let rise = rises item_number rows.items lawful.item_numbers_rise in
       let y_is : get_or rows.items j x ≡ y = get_or_default rows.items j x d within in
       let differs : item_number y ≢ item_number x = subst (λ (z : ItemRow). item_number z ≢ item_number x) y_is (others_differ item_number (item_number x) k j rows.items x rise lt (ap item_number (sym is)) other within) in
-      inr (differs, λ region. elim (cases_lt j k) [
-        | inl below ↦
-            let apart = lawful.items_are_apart j k x below lt (ap (λ (z : ItemRow). z.region) y_is ∙ region ∙ ap (λ (z : ItemRow). z.region) is) in
-            (subst (λ (z : ItemRow). z.name ≢ x.name) y_is (λ e. apart.0 (e ∙ ap (λ (z : ItemRow). z.name) is)),
-            begin_apart x y (swap_sides y x (subst (λ (z : ItemRow). (room_end z ≤ x.base) ⊎ (room_end x ≤ z.base)) y_is (subst (λ (z : ItemRow). (room_end (get_or rows.items j x) ≤ z.base) ⊎ (room_end z ≤ (get_or rows.items j x).base)) (sym is) apart.1))))
-        | inr above ↦
-            let apart = lawful.items_are_apart k j x (omega arith) within (ap (λ (z : ItemRow). z.region) (sym is) ∙ sym region ∙ ap (λ (z : ItemRow). z.region) (sym y_is)) in
-            (subst (λ (z : ItemRow). z.name ≢ x.name) y_is (λ e. apart.0 (ap (λ (z : ItemRow). z.name) (sym is) ∙ sym e)),
-            begin_apart x y (subst (λ (z : ItemRow). (room_end x ≤ z.base) ⊎ (room_end z ≤ x.base)) y_is (subst (λ (z : ItemRow). (room_end z ≤ (get_or rows.items j x).base) ⊎ (room_end (get_or rows.items j x) ≤ z.base)) (sym is) apart.1)))
-      ])
+      inr (
+        differs,
+        λ region. elim (cases_lt j k) [
+          | inl below ↦
+              let apart = lawful.items_are_apart j k x below lt (ap (λ (z : ItemRow). z.region) y_is ∙ region ∙ ap (λ (z : ItemRow). z.region) is) in (
+                subst (λ (z : ItemRow). z.name ≢ x.name) y_is (λ e. apart.0 (e ∙ ap (λ (z : ItemRow). z.name) is)),
+                begin_apart x y (swap_sides y x (subst (λ (z : ItemRow). (room_end z ≤ x.base) ⊎ (room_end x ≤ z.base)) y_is (subst (λ (z : ItemRow). (room_end (get_or rows.items j x) ≤ z.base) ⊎ (room_end z ≤ (get_or rows.items j x).base)) (sym is) apart.1))),
+              )
+          | inr above ↦
+              let apart = lawful.items_are_apart k j x (omega arith) within (ap (λ (z : ItemRow). z.region) (sym is) ∙ sym region ∙ ap (λ (z : ItemRow). z.region) (sym y_is)) in (
+                subst (λ (z : ItemRow). z.name ≢ x.name) y_is (λ e. apart.0 (ap (λ (z : ItemRow). z.name) (sym is) ∙ sym e)),
+                begin_apart x y (subst (λ (z : ItemRow). (room_end x ≤ z.base) ⊎ (room_end z ≤ x.base)) y_is (subst (λ (z : ItemRow). (room_end z ≤ (get_or rows.items j x).base) ⊎ (room_end (get_or rows.items j x) ≤ z.base)) (sym is) apart.1)),
+              )
+        ],
+      )
 ] where
   swap_sides : (a b : ItemRow) → (room_end a ≤ b.base) ⊎ (room_end b ≤ a.base) → (room_end b ≤ a.base) ⊎ (room_end a ≤ b.base)
   swap_sides a b (inl h) = inr h
@@ -140,7 +145,7 @@ index_shrunk rows new old now k x lawful lt is shrunk here row gone size rooms h
     let at_n : IsIndexOf rows old = h in
     record {
       names = λ q. gone q ∙ ap (cond (bytes_eq x.name q) None) (h.names q ∙ ap (λ m. option_map item_number (item_named rows m q)) here)
-          ∙ name_removed (λ (y : ItemRow). y.name) item_number (item_number x) x xs q refl (λ j d within. elim (others j d within) [ | inl it ↦ inl it | inr other ↦ inr (other.0, other.1.0) ])
+          ∙ name_removed (λ (y : ItemRow). y.name) item_number (item_number x) x xs q refl (λ j d within. elim (others j d within) [ inl it ↦ inl it | inr other ↦ inr (other.0, other.1.0) ])
           ∙ ap (λ l. option_map item_number (find (λ y. bytes_eq y.name q) l)) list;
       space = record {
         same_size = size ∙ h.space.same_size ∙ sym (ap (λ (r : RegionRow). r.size) row);

@@ -100,8 +100,7 @@ mode_step regions items a b k total mode names n x h ok at lt is =
     let now : Region = record x { row = record x.row { mode = mode } } in
     let old = read_at regions k x now lt is in
     let number = number_at regions n.0 k now at lt in
-    let row : now.row ≡ record (get_or regions k now).row { mode = mode } = sym (ap (λ (r : Region). let s : RegionRow = record r.row { mode = mode } in s) old) in
-    (
+    let row : now.row ≡ record (get_or regions k now).row { mode = mode } = sym (ap (λ (r : Region). let s : RegionRow = record r.row { mode = mode } in s) old) in (
       mode_changed regions items a b k total mode names n now h ok lt number row (sym (ap (λ (r : Region). r.items) old)) (sym (ap (λ (r : Region). r.room) old)),
       mode_rows regions items a b k mode n now h.lawful lt number row,
     )
@@ -126,8 +125,7 @@ size_step regions items a b k total size names n x now h ok at lt is row found s
     let number = number_at regions n.0 k now at lt in
     let row_is : now.row ≡ record (get_or regions k now).row { size = size } = row ∙ sym (ap (λ (r : Region). let s : RegionRow = record r.row { size = size } in s) old) in
     let within = size_within regions items a b k total names x h lt is in
-    let same = ap (λ (r : Region). r.row.size) old in
-    (
+    let same = ap (λ (r : Region). r.row.size) old in (
       size_changed regions items a b k total (total - x.row.size + size) size names n now h ok lt number row_is (found ∙ sym (ap (λ (r : Region). r.items) old)) space (rooms ∙ sym (ap (λ (r : Region). r.room.rooms) old)) (omega (arith, within, same)),
       size_rows regions items a b k size n now h.lawful lt number row_is,
     )
@@ -148,8 +146,7 @@ pub destroy_step : (regions : List Region) (items left : List ItemRow) (a b k to
     IsIndexed (rows_of (remove regions k) left a b) (remove regions k) new_names (total - gone.row.size)
     × (rows_of (remove regions k) left a b ≡ after (rows_of regions items a b) (change.DestroyRegion n))
 destroy_step regions items left a b k total names new_names n gone h ok at lt is dropped kept =
-    let number = number_at regions n.0 k gone at lt in
-    (
+    let number = number_at regions n.0 k gone at lt in (
       subst (λ l. IsIndexed (rows_of (remove regions k) l a b) (remove regions k) new_names (total - gone.row.size)) (sym kept) (destroyed regions items a b k total (total - gone.row.size) names new_names n gone h ok lt is number dropped refl),
       ap (λ l. rows_of (remove regions k) l a b) kept ∙ destroyed_rows regions items a b k n gone h.lawful lt number,
     )
@@ -177,8 +174,7 @@ drop_step regions items left a b j k total names n x r now h ok found within rea
     let same : map (λ (s : Region). s.row) (set regions k now) ≡ map (λ (s : Region). s.row) regions = map_set_same (λ (s : Region). s.row) k regions now lt (row ∙ sym (ap (λ (s : Region). s.row) old)) in
     let index = subst (IsIndexOf rows) (sym is) (h.indexes k r lt) in
     let here : number_of r ≡ x.region.0 = ap number_of is ∙ number_at regions x.region.0 k r at lt in
-    let equal : new ≡ after rows (change.Deallocate n) = (λ i. let t : Rows = record { regions = same i; items = (shrunk ∙ ap (λ m. filter (λ (y : ItemRow). not (eqb (item_number y) m)) items) number) i; next_region = a; next_item = b } in t) in
-    (
+    let equal : new ≡ after rows (change.Deallocate n) = (λ i. let t : Rows = record { regions = same i; items = (shrunk ∙ ap (λ m. filter (λ (y : ItemRow). not (eqb (item_number y) m)) items) number) i; next_region = a; next_item = b } in t) in (
       record {
         lawful = subst IsLawful (sym equal) (keeps_law rows (change.Deallocate n) h.lawful ok);
         by_name = λ q. h.by_name q ∙ ap (λ l. option_map region_number (find (λ (s : RegionRow). bytes_eq s.name q) l)) (sym same);

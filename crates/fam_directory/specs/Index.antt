@@ -1,9 +1,11 @@
 -- What the directory keeps beside its rows.
-use Rattle.std.specs.Prelude.{◌≡◌, ℕ, ◌<◌, Bool, true, false, List, [], map, All, Option, Some, None, Vec}
+use Rattle.std.specs.Prelude.{◌≡◌, ℕ, ◌<◌, Bool, true, false, List, [], map, find, All, Option, Some, None, Vec}
 use Rattle.std.specs.Option.{option_map}
+use Rattle.std.specs.Str.{bytes_eq}
 use Rattle.std.specs.Vec.{vec_len, vec_capacity}
 use Rattle.fam_base.specs.declared.naming.RegionId.{RegionId}
 use Rattle.fam_model.specs.declared.rows.ItemRow.{ItemRow}
+use Rattle.fam_model.specs.declared.rows.RegionRow.{RegionRow}
 use Rattle.fam_model.specs.declared.rows.Rows.{Rows}
 use Rattle.fam_model.specs.declared.change.Change.{Change}
 use Rattle.fam_model.specs.declared.change.Change.TheVariants as change
@@ -86,3 +88,11 @@ HasRoom regions items names (Some number) =
 abbrev pub IsAwaited : {Z : Type 0} → Vec Region Z → Vec ItemRow Z → NameMap → Option Coming → Type 0
 IsAwaited regions items names None = Unit {0}
 IsAwaited regions items names (Some coming) = (coming.key ≡ coming.name) × HasRoom regions items names coming.region
+
+-- the number of a name among the rows of regions
+abbrev pub named_in : List ℕ → List RegionRow → Option ℕ
+named_in name regions = option_map region_number (find (λ row. bytes_eq row.name name) regions)
+
+-- the rows with no items
+abbrev pub without_items : Rows → Rows
+without_items rows = record rows { items = [] }

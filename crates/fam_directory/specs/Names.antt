@@ -3,7 +3,6 @@ use Rattle.std.specs.Prelude.{ℕ, Bool, List, Option, find, map, Vec}
 use Rattle.std.specs.Option.{option_map}
 use Rattle.std.specs.Str.{bytes_eq}
 
-
 -- a name and its number
 pub record NameEntry : Type 0 where
   pub name : List ℕ

@@ -1,11 +1,14 @@
 //! What is found, and what a request changes.
 
-ghost use Rattle.std.specs.Prelude.{◌≡◌, true, IfOk};
+ghost use Rattle.std.specs.Prelude.{◌≡◌, ◌<◌, ◌≤◌, true, IfOk, IsTrue};
 ghost use Rattle.fam_base.specs.declared.naming.Who.{Who as AnyWho};
 ghost use Rattle.fam_model.specs.Directory as words;
 ghost use Rattle.fam_model.specs.Directory.{refusal, first_choice};
-ghost use Rattle.fam_model.specs.Rows.{region_of, item_of, region_named};
+ghost use Rattle.fam_model.specs.Lawful.{is_lawful_change};
+ghost use Rattle.fam_model.specs.Limits.{nobody};
+ghost use Rattle.fam_model.specs.Rows.{region_of, item_of};
 ghost use Rattle.fam_model.specs.declared.request.Request.TheVariants as request;
+ghost use Rattle.fam_rows.specs.Laws.{asked_mode};
 ghost use Rattle.fam_rows.specs.Located.{located_at};
 ghost use Rattle.fam_directory.specs.Answers.{IsFound, IsMade, makes_change, region_found};
 
@@ -71,8 +74,19 @@ impl Directory {
         }
     }
 
-    /// The change that serves a request, with the least base for a new item; or the first refusal.
+    /// The change that serves a request, with the least base for a new item; or the first refusal. The change of a user who is
+    /// somebody is lawful.
     pub fn check(&self, who: Who, request: &Request) -> Result<Change, FamError>
+        requires { makes_change request.now ≡ true }
+        ensures made { IsMade (refusal self.now.rows who request.now) (first_choice self.now.rows who request.now) result }
+        ensures lawful { who.uid < nobody → asked_mode request.now ≤ 511 → IfOk result (λ change. IsTrue (is_lawful_change self.now.rows change)) }
+    {
+        let _items = &self.items;
+        self.chosen(who, request)
+    }
+
+    /// The change that serves a request, or the first refusal.
+    fn chosen(&self, who: Who, request: &Request) -> Result<Change, FamError>
         requires { makes_change request.now ≡ true }
         ensures { IsMade (refusal self.now.rows who request.now) (first_choice self.now.rows who request.now) result }
     {
@@ -100,12 +114,7 @@ impl Directory {
     }
 
     /// The change that serves a request of this caller, with a new item at `base`; a look-up and a stat have none.
-    fn change_at(
-        &self,
-        who: Who,
-        request: &Request,
-        base: u64,
-    ) -> Result<Option<Change>, NoMemory>
+    fn change_at(&self, who: Who, request: &Request, base: u64) -> Result<Option<Change>, NoMemory>
         ensures { IfOk result (λ change. change ≡ words.change_at self.now.rows who request.now base) }
     {
         let change = match request {

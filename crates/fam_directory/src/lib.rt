@@ -1,6 +1,7 @@
 //! The directory with indexes: names, rows by their numbers, and the room of each region.
 #![tactic(auto)]
 
+mod building;
 mod changing;
 mod copying;
 mod directory;
@@ -9,5 +10,7 @@ mod names;
 mod refusing;
 mod region;
 mod searching;
+#[cfg(test)]
+mod tests;
 
 pub use directory::Directory;

@@ -110,6 +110,26 @@ impl Region {
         self.room.take(base, size);
     }
 
+    /// Takes memory, and then adds an item at a base.
+    pub(crate) fn insert(
+        &mut self,
+        key: Bytes,
+        number: ItemId,
+        base: u64,
+        size: u64,
+    ) -> Result<(), NoMemory>
+        requires absent { named key self.old.items ≡ None }
+        requires fits { has_place self.old.room size base ≡ true }
+        ensures row { OnOk result (self.new.row ≡ self.old.row) }
+        ensures names { OnOk result ((name : List ℕ) → named name self.new.items ≡ (if bytes_eq key name then Some number.0 else named name self.old.items)) }
+        ensures size { OnOk result (self.new.room.size ≡ self.old.room.size) }
+        ensures rooms { OnOk result (self.new.room.rooms ≡ with_room base size self.old.room.rooms) }
+    {
+        self.reserve()?;
+        self.add(key, number, base, size);
+        Ok(())
+    }
+
     /// Takes the item of a name, which lies at a base, out.
     pub(crate) fn remove(&mut self, name: &[u8], base: u64)
         requires { has_room base self.old.room.rooms ≡ true }

@@ -1,10 +1,5 @@
 use Rattle.std.proofs.Common.{◌∙◌, ap}
 use Rattle.fam_model.specs.Rows.{total_size}
-use Rattle.fam_directory.proofs.Changed.{created}
-use Rattle.fam_directory.proofs.Destroyed.{destroyed}
-use Rattle.fam_directory.proofs.Steps.{drop_step}
-use Rattle.fam_directory.proofs.Adding.{allocate_step}
-use Rattle.fam_directory.proofs.Placed.{indexes_shrunk}
 use Rattle.fam_directory.proofs.directory.Directory.total_size.Goals as goal
 
 pub returns : goal.returns
