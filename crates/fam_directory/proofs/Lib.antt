@@ -1,0 +1,11 @@
+pub mod Adding
+pub mod Changed
+pub mod Chosen
+pub mod Destroyed
+pub mod Indexes
+pub mod Lookups
+pub mod Moves
+pub mod Naming
+pub mod Placed
+pub mod Steps
+pub mod TakenOver

@@ -1,0 +1,16 @@
+//! The directory with indexes: names, rows by their numbers, and the room of each region.
+#![tactic(auto)]
+
+mod building;
+mod changing;
+mod copying;
+mod directory;
+mod finding;
+mod names;
+mod refusing;
+mod region;
+mod searching;
+#[cfg(test)]
+mod tests;
+
+pub use directory::Directory;
