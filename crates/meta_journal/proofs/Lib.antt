@@ -11,5 +11,6 @@ pub mod Results
 pub mod Settling
 pub mod Smallness
 pub mod Switching
+pub mod Syncs
 pub mod Worked
 pub mod Writing
