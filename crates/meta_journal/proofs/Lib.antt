@@ -1,5 +1,6 @@
 pub mod Adding
 pub mod Appending
+pub mod Bodies
 pub mod Images
 pub mod Lists
 pub mod Owned
