@@ -1,5 +1,6 @@
 pub mod Adding
 pub mod Appending
+pub mod Bodies
 pub mod Images
 pub mod Lists
 pub mod Owned
@@ -11,5 +12,6 @@ pub mod Results
 pub mod Settling
 pub mod Smallness
 pub mod Switching
+pub mod Syncs
 pub mod Worked
 pub mod Writing

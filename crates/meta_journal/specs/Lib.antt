@@ -5,6 +5,7 @@ pub mod Reading
 pub mod Settling
 pub mod Short
 pub mod State
+pub mod Syncs
 pub mod Versions
 pub mod Worked
 pub mod Writing

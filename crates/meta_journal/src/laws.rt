@@ -1,7 +1,12 @@
 //! Laws of the definitions, each the contract of a function that does nothing.
 
-ghost use Rattle.meta_journal.specs.Laws.{ShortFormRestores, ShortFormIsSmall};
+ghost use Rattle.meta_journal.specs.Laws.{LawfulChangesHaveBodies, ShortFormRestores, ShortFormIsSmall};
 ghost use Rattle.meta_journal.specs.Worked.{WorkedJournals};
+
+/// A lawful change has a body, so an append may be asked for.
+pub fn lawful_changes_have_bodies()
+    ensures { LawfulChangesHaveBodies }
+{}
 
 /// The short form of lawful rows makes these rows again.
 pub fn short_form_restores()

@@ -12,4 +12,6 @@ mod short_form;
 pub use area::Area;
 pub use doubt::Doubt;
 pub use journal::Journal;
-pub use laws::{short_form_is_small, short_form_restores, worked_journals};
+pub use laws::{
+    lawful_changes_have_bodies, short_form_is_small, short_form_restores, worked_journals,
+};

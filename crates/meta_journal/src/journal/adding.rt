@@ -13,6 +13,7 @@ use fam_base::Failed;
 use fam_disk::{Disk, write_synced};
 
 impl<D: Disk> Journal<D> {
+    ghost use Rattle.meta_journal.specs.Syncs.{KeepsSyncs};
     ghost use Rattle.meta_journal.specs.State.{acknowledged, IsSound, HasRowsOrAfter};
     ghost use Rattle.meta_journal.specs.Image.{IsAddable};
     ghost use Rattle.meta_journal.specs.declared.doubt.Doubt.TheVariants.{Nothing, OfChange};
@@ -34,6 +35,7 @@ impl<D: Disk> Journal<D> {
         ensures acknowledged { OnErr result (acknowledged self.new ≡ acknowledged self.old) }
         ensures settled { OnOk result (self.new.doubt ≡ Nothing) }
         ensures in_doubt { OnErr result ((self.new.doubt ≡ Nothing) ⊎ (self.new.doubt ≡ OfChange reserved.change)) }
+        ensures syncs { KeepsSyncs (D.state self.old.disk) (D.state self.new.disk) }
         ensures cause { HasCause (D.state self.old.disk).faults (D.state self.new.disk).faults result }
     {
         let gate = disk_place(self.limit, self.area, self.used);

@@ -14,6 +14,7 @@ use fam_disk::Disk;
 use fam_model::Change;
 
 impl<D: Disk> Journal<D> {
+    ghost use Rattle.meta_journal.specs.Syncs.{KeepsSyncs};
     ghost use Rattle.meta_journal.specs.State.{acknowledged, IsSound, MayGoOn, changes_behind, place_behind, HasRowsInDoubt, HasRowsOrAfter};
     ghost use Rattle.meta_journal.specs.Image.{IsAddable};
     ghost use Rattle.meta_journal.specs.Reading.{HasRows};
@@ -36,6 +37,7 @@ impl<D: Disk> Journal<D> {
         ensures acknowledged { OnErr result (acknowledged self.new ≡ acknowledged self.old) }
         ensures settled { OnOk result (self.new.doubt ≡ Nothing) }
         ensures in_doubt { OnErr result ((self.new.doubt ≡ Nothing) ⊎ ((self.new.doubt ≡ OfArea) × IsSome form.now)) }
+        ensures syncs { KeepsSyncs (D.state self.old.disk) (D.state self.new.disk) }
         ensures cause { HasCause (D.state self.old.disk).faults (D.state self.new.disk).faults result }
     {
         match form {
@@ -65,6 +67,7 @@ impl<D: Disk> Journal<D> {
         ensures settled { OnOk result (self.new.doubt ≡ Nothing) }
         ensures in_doubt { OnErr result ((self.new.doubt ≡ self.old.doubt) ⊎ (self.new.doubt ≡ Nothing)
             ⊎ (self.new.doubt ≡ OfChange reserve.record.change) ⊎ ((self.new.doubt ≡ OfArea) × IsSome reserve.short)) }
+        ensures syncs { KeepsSyncs (D.state self.old.disk) (D.state self.new.disk) }
         ensures cause { HasCause (D.state self.old.disk).faults (D.state self.new.disk).faults result }
     {
         let Reserve { record, short } = reserve;
@@ -76,6 +79,7 @@ impl<D: Disk> Journal<D> {
 }
 
 impl<D: Disk> Journal<D> {
+    ghost use Rattle.meta_journal.specs.Syncs.{KeepsSyncs};
     ghost use Rattle.meta_journal.specs.State.{acknowledged, IsSound, IsReserved, MayHold, MayDoubt, has_room, kept_changes, kept_place};
     ghost use Rattle.meta_journal.specs.Reading.{HasRows};
     ghost use Rattle.meta_journal.specs.declared.doubt.Doubt.TheVariants.{Nothing};
@@ -110,6 +114,7 @@ impl<D: Disk> Journal<D> {
         ensures used_after_failure { (rows : Rows) → IsReserved self.old change.now rows → OnErr result
             ((self.new.used ≡ self.old.used) ⊎ (self.new.used ≡ kept_place self.old.limit self.old.used rows change.now)) }
         ensures failed { OnErr result (result ≡ Err DiskFault) }
+        ensures syncs { KeepsSyncs (D.state self.old.disk) (D.state self.new.disk) }
         ensures cause { HasCause (D.state self.old.disk).faults (D.state self.new.disk).faults result }
     {
         let Some(reserve) = self.reserve.take() else {

@@ -11,6 +11,7 @@ use fam_base::{Failed, FamError};
 use fam_disk::{Disk, write_synced};
 
 impl<D: Disk> Journal<D> {
+    ghost use Rattle.meta_journal.specs.Syncs.{KeepsSyncs};
     ghost use Rattle.meta_journal.specs.State.{acknowledged, IsSound, IsSameJournal, HasRowsInDoubt};
     ghost use Rattle.meta_journal.specs.declared.doubt.Doubt.TheVariants.{Nothing};
 
@@ -24,6 +25,7 @@ impl<D: Disk> Journal<D> {
             (D.state self.old.disk) (D.state self.new.disk) }
         ensures settled { OnOk result (self.new.doubt ≡ Nothing) }
         ensures in_doubt { OnErr result (self.new.doubt ≡ self.old.doubt) }
+        ensures syncs { KeepsSyncs (D.state self.old.disk) (D.state self.new.disk) }
         ensures cause { HasCause (D.state self.old.disk).faults (D.state self.new.disk).faults result }
     {
         match settling(self.limit, self.area, self.used, &self.doubt) {
@@ -38,6 +40,7 @@ impl<D: Disk> Journal<D> {
 }
 
 impl<D: Disk> Journal<D> {
+    ghost use Rattle.meta_journal.specs.Syncs.{KeepsSyncs};
     ghost use Rattle.meta_journal.specs.Reading.{HasRows};
     ghost use Rattle.meta_journal.specs.State.{acknowledged, IsSound, IsSameJournal, HasRowsInDoubt};
     ghost use Rattle.meta_journal.specs.declared.doubt.Doubt.TheVariants.{Nothing};
@@ -56,6 +59,7 @@ impl<D: Disk> Journal<D> {
             (HasRows self.new.limit (rows_of (acknowledged self.new)))) }
         ensures in_doubt { OnErr result (self.new.doubt ≡ self.old.doubt) }
         ensures failed { OnErr result (result ≡ Err DiskFault) }
+        ensures syncs { KeepsSyncs (D.state self.old.disk) (D.state self.new.disk) }
         ensures cause { HasCause (D.state self.old.disk).faults (D.state self.new.disk).faults result }
     {
         match self.settle_doubt() {

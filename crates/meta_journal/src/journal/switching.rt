@@ -13,6 +13,7 @@ use fam_base::Failed;
 use fam_disk::{Disk, write_synced};
 
 impl<D: Disk> Journal<D> {
+    ghost use Rattle.meta_journal.specs.Syncs.{KeepsSyncs};
     ghost use Rattle.meta_journal.specs.State.{acknowledged, IsSound, IsSameJournal};
     ghost use Rattle.meta_journal.specs.Reading.{HasRows};
     ghost use Rattle.meta_journal.specs.Image.{other_area};
@@ -33,6 +34,7 @@ impl<D: Disk> Journal<D> {
             (D.state self.old.disk) (D.state self.new.disk) }
         ensures reached { OnOk result (ForSome (D.state self.new.disk).content (λ bytes.
             start_of self.new.limit (other_area self.new.area) ≤ length bytes)) }
+        ensures syncs { KeepsSyncs (D.state self.old.disk) (D.state self.new.disk) }
         ensures cause { HasCause (D.state self.old.disk).faults (D.state self.new.disk).faults result }
     {
         let start = area_start(self.limit, other_of(self.area));
@@ -67,6 +69,7 @@ impl<D: Disk> Journal<D> {
         ensures acknowledged { OnErr result (acknowledged self.new ≡ acknowledged self.old) }
         ensures settled { OnOk result (self.new.doubt ≡ Nothing) }
         ensures in_doubt { OnErr result ((self.new.doubt ≡ Nothing) ⊎ (self.new.doubt ≡ OfArea)) }
+        ensures syncs { KeepsSyncs (D.state self.old.disk) (D.state self.new.disk) }
         ensures cause { HasCause (D.state self.old.disk).faults (D.state self.new.disk).faults result }
     {
         let other = other_of(self.area);
@@ -101,6 +104,7 @@ impl<D: Disk> Journal<D> {
         ensures acknowledged { OnErr result (acknowledged self.new ≡ acknowledged self.old) }
         ensures settled { OnOk result (self.new.doubt ≡ Nothing) }
         ensures in_doubt { OnErr result ((self.new.doubt ≡ Nothing) ⊎ (self.new.doubt ≡ OfArea)) }
+        ensures syncs { KeepsSyncs (D.state self.old.disk) (D.state self.new.disk) }
         ensures cause { HasCause (D.state self.old.disk).faults (D.state self.new.disk).faults result }
     {
         self.reach_other()?;

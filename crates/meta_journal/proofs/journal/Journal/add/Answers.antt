@@ -1,3 +1,4 @@
+use Rattle.meta_journal.proofs.Syncs.{one_sync, more_syncs}
 use Rattle.std.proofs.Common.{◌≡◌, ℕ, ◌+◌, ◌<◌, [], ◌∷◌, ◌++◌, length, length-append, sym, ◌∙◌, ap, subst, arith}
 use Rattle.std.specs.Prelude.{IsSome}
 use Rattle.fam_disk.specs.Crash.{Leaves}
@@ -196,3 +197,27 @@ returns-in_err-write_synced-2-clause-acknowledged g c =
     let staged = λ (told : IsSome S0.content). record_written j.limit j.used j.area A change (c.requires.addable told) room c.disk_place-gate.result c.disk_place-gate.ensures c.as_slice.result.now (c.as_slice.ensures ∙ c.args.reserved.spells) S0 S1 (laws.reads_image j.disk) was c.in_ok-write_synced.ensures.synced c.in_ok-write_synced.ensures.written in
     on_err _ (still_acknowledged S0 S2 j.limit j.used j.area (OfChange change) tells (laws.reads_image c.write_synced-2.new.disk)
     (now_where_told (IsImage j.limit j.used j.area (OfChange change) A) S0 S2 (laws.tells_content c.write_synced-2.new.disk) tells (λ told. gate_failed j.limit j.used j.area A change (c.requires.addable told) room c.disk_place-gate.result c.disk_place-gate.ensures c.as_slice.result.now (c.as_slice.ensures ∙ c.args.reserved.spells) S1 S2 (staged told) c.write_synced-2.ensures.crash)))
+
+pub returns-in_err-write_synced-clause-syncs : goal.returns-in_err-write_synced-clause-syncs
+returns-in_err-write_synced-clause-syncs g c =
+    let D = g.D.Disk.state in
+    let S0 = D c.args.self.now.disk in
+    one_sync S0 (D c.write_synced.new.disk) c.write_synced.result c.write_synced.ensures.syncs
+
+pub returns-in_err-write_synced-2-clause-syncs : goal.returns-in_err-write_synced-2-clause-syncs
+returns-in_err-write_synced-2-clause-syncs g c =
+    let D = g.D.Disk.state in
+    let S0 = D c.args.self.now.disk in
+    let S1 = D c.write_synced.new.disk in
+    let S2 = D c.write_synced-2.new.disk in
+    more_syncs S0 S1 S2 (one_sync S0 S1 c.write_synced.result c.write_synced.ensures.syncs) c.write_synced.ensures.crash.tells
+    (one_sync S1 S2 c.write_synced-2.result c.write_synced-2.ensures.syncs)
+
+pub returns-clause-syncs : goal.returns-clause-syncs
+returns-clause-syncs g c =
+    let D = g.D.Disk.state in
+    let S0 = D c.args.self.now.disk in
+    let S1 = D c.write_synced.new.disk in
+    let S2 = D c.write_synced-2.new.disk in
+    more_syncs S0 S1 S2 (one_sync S0 S1 c.write_synced.result c.write_synced.ensures.syncs) c.write_synced.ensures.crash.tells
+    (one_sync S1 S2 c.write_synced-2.result c.write_synced-2.ensures.syncs)

@@ -1,3 +1,4 @@
+use Rattle.meta_journal.proofs.Syncs.{more_syncs}
 use Rattle.std.proofs.Common.{ap, sym, ◌∙◌}
 use Rattle.fam_model.specs.Journal.{rows_of}
 use Rattle.meta_journal.specs.State.{acknowledged}
@@ -56,3 +57,31 @@ returns-clause-any_moment g c =
     (settled_so_far j.limit A j.doubt change S0 S1 settled.any_moment) room.any_moment in
     added_so_far j.limit A j.doubt change S0 S2 S3 c.make_room.new.self.limit (acknowledged c.make_room.new.self) (room.limit ∙ settled.same.limit) (room.same_rows ∙ ap rows_of settled.acknowledged)
     so_far c.add.ensures.any_moment
+
+pub returns-in_err-make_room-clause-syncs : goal.returns-in_err-make_room-clause-syncs
+returns-in_err-make_room-clause-syncs g c =
+    let D = g.D.Disk.state in
+    let S0 = D c.args.self.now.disk in
+    let S1 = D c.settle_doubt.new.self.disk in
+    let S2 = D c.make_room.new.self.disk in
+    more_syncs S0 S1 S2 c.settle_doubt.ensures.syncs c.settle_doubt.ensures.any_moment.tells c.make_room.ensures.syncs
+
+pub returns-in_err-add-clause-syncs : goal.returns-in_err-add-clause-syncs
+returns-in_err-add-clause-syncs g c =
+    let D = g.D.Disk.state in
+    let S0 = D c.args.self.now.disk in
+    let S1 = D c.settle_doubt.new.self.disk in
+    let S2 = D c.make_room.new.self.disk in
+    let S3 = D c.add.new.self.disk in
+    more_syncs S0 S2 S3 (more_syncs S0 S1 S2 c.settle_doubt.ensures.syncs c.settle_doubt.ensures.any_moment.tells c.make_room.ensures.syncs)
+    (c.make_room.ensures.any_moment.tells ∙ c.settle_doubt.ensures.any_moment.tells) c.add.ensures.syncs
+
+pub returns-clause-syncs : goal.returns-clause-syncs
+returns-clause-syncs g c =
+    let D = g.D.Disk.state in
+    let S0 = D c.args.self.now.disk in
+    let S1 = D c.settle_doubt.new.self.disk in
+    let S2 = D c.make_room.new.self.disk in
+    let S3 = D c.add.new.self.disk in
+    more_syncs S0 S2 S3 (more_syncs S0 S1 S2 c.settle_doubt.ensures.syncs c.settle_doubt.ensures.any_moment.tells c.make_room.ensures.syncs)
+    (c.make_room.ensures.any_moment.tells ∙ c.settle_doubt.ensures.any_moment.tells) c.add.ensures.syncs

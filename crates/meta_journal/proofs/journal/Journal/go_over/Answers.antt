@@ -1,3 +1,4 @@
+use Rattle.meta_journal.proofs.Syncs.{one_sync, more_syncs}
 use Rattle.std.proofs.Common.{◌≡◌, ℕ, ◌+◌, ◌<◌, List, [], ◌∷◌, length, length-append, sym, ◌∙◌, ap, subst, arith}
 use Rattle.std.specs.Prelude.{IsSome, option_map}
 use Rattle.fam_disk.specs.Crash.{IsTorn, Leaves, Passes, written}
@@ -358,3 +359,27 @@ returns-clause-shortened g c told =
     (subst (λ (n : ℕ). Leaves S2 S2.moment (IsImage j.limit n (other_area j.area) Nothing other)) (size told)
     (turn_written j.limit j.used j.area A other (c.requires.restores told) (room told) S0 S1 S2 (laws.reads_image c.write_synced.new.disk) (prepared told) c.in_ok-write_synced-2.ensures.synced turned)) in
     known_acknowledged S2 j.limit (15 + length c.args.form.now) c.other_of-other.result Nothing other (laws.reads_image c.write_synced-2.new.disk) (done told) (tells ∙ told)
+
+pub returns-in_err-write_synced-clause-syncs : goal.returns-in_err-write_synced-clause-syncs
+returns-in_err-write_synced-clause-syncs g c =
+    let D = g.D.Disk.state in
+    let S0 = D c.args.self.now.disk in
+    one_sync S0 (D c.write_synced.new.disk) c.write_synced.result c.write_synced.ensures.syncs
+
+pub returns-in_err-write_synced-2-clause-syncs : goal.returns-in_err-write_synced-2-clause-syncs
+returns-in_err-write_synced-2-clause-syncs g c =
+    let D = g.D.Disk.state in
+    let S0 = D c.args.self.now.disk in
+    let S1 = D c.write_synced.new.disk in
+    let S2 = D c.write_synced-2.new.disk in
+    more_syncs S0 S1 S2 (one_sync S0 S1 c.write_synced.result c.write_synced.ensures.syncs) c.write_synced.ensures.crash.tells
+    (one_sync S1 S2 c.write_synced-2.result c.write_synced-2.ensures.syncs)
+
+pub returns-clause-syncs : goal.returns-clause-syncs
+returns-clause-syncs g c =
+    let D = g.D.Disk.state in
+    let S0 = D c.args.self.now.disk in
+    let S1 = D c.write_synced.new.disk in
+    let S2 = D c.write_synced-2.new.disk in
+    more_syncs S0 S1 S2 (one_sync S0 S1 c.write_synced.result c.write_synced.ensures.syncs) c.write_synced.ensures.crash.tells
+    (one_sync S1 S2 c.write_synced-2.result c.write_synced-2.ensures.syncs)

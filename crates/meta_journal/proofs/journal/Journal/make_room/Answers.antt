@@ -1,4 +1,5 @@
-use Rattle.std.proofs.Common.{subst}
+use Rattle.meta_journal.proofs.Syncs.{same_syncs}
+use Rattle.std.proofs.Common.{refl, subst}
 use Rattle.fam_disk.specs.Crash.{Leaves}
 use Rattle.fam_disk.proofs.Moments.{started}
 use Rattle.fam_model.specs.Journal.{rows_of}
@@ -18,3 +19,9 @@ returns-in-None-clause-any_moment g c =
     let was : Leaves S0 S0.moment (IsImage j.limit j.used j.area Nothing A) =
     subst (λ (d : Doubt). Leaves S0 S0.moment (IsImage j.limit j.used j.area d A)) c.requires.settled c.requires.sound in
     started (HasRows j.limit (rows_of A)) S0 (λ image left. reads_in_doubt j.limit j.used j.area A Nothing image (was image left))
+
+pub returns-in-None-clause-syncs : goal.returns-in-None-clause-syncs
+returns-in-None-clause-syncs g c =
+    let D = g.D.Disk.state in
+    let S0 = D c.args.self.now.disk in
+    same_syncs S0 S0 refl

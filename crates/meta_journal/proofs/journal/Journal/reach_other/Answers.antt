@@ -1,3 +1,4 @@
+use Rattle.meta_journal.proofs.Syncs.{same_syncs}
 use Rattle.std.proofs.Common.{◌≡◌, ℕ, ◌-◌, List, length, length-take, sym, ◌∙◌, ap, subst, arith}
 use Rattle.std.specs.Prelude.{IsSome, Some, option_map, replicate, take, min}
 use Rattle.fam_disk.specs.Crash.{Leaves, written}
@@ -247,3 +248,27 @@ returns-else-end-start-clause-any_moment g c =
     let still = quiet_kept j.limit j.used j.area A S0 S1 was c.len.ensures.crash in
     let run = kept_moments j.limit j.used j.area A S0 S1 was c.len.ensures.crash in
     run
+
+pub returns-in_err-end-clause-syncs : goal.returns-in_err-end-clause-syncs
+returns-in_err-end-clause-syncs g c =
+    let D = g.D.Disk.state in
+    let S0 = D c.args.self.now.disk in
+    same_syncs S0 (D c.len.new.self) c.len.ensures.syncs
+
+pub returns-in_err-write_at-clause-syncs : goal.returns-in_err-write_at-clause-syncs
+returns-in_err-write_at-clause-syncs g c =
+    let D = g.D.Disk.state in
+    let S0 = D c.args.self.now.disk in
+    same_syncs S0 (D c.write_at.new.self) (c.write_at.ensures.syncs ∙ c.len.ensures.syncs)
+
+pub returns-in_ok-write_at-clause-syncs : goal.returns-in_ok-write_at-clause-syncs
+returns-in_ok-write_at-clause-syncs g c =
+    let D = g.D.Disk.state in
+    let S0 = D c.args.self.now.disk in
+    same_syncs S0 (D c.write_at.new.self) (c.write_at.ensures.syncs ∙ c.len.ensures.syncs)
+
+pub returns-else-end-start-clause-syncs : goal.returns-else-end-start-clause-syncs
+returns-else-end-start-clause-syncs g c =
+    let D = g.D.Disk.state in
+    let S0 = D c.args.self.now.disk in
+    same_syncs S0 (D c.len.new.self) c.len.ensures.syncs

@@ -1,3 +1,4 @@
+use Rattle.meta_journal.proofs.Syncs.{more_syncs}
 use Rattle.std.proofs.Common.{ℕ, List, subst}
 use Rattle.fam_disk.proofs.Moments.{run_on}
 use Rattle.fam_disk.specs.Crash.{LeavesOnly}
@@ -34,3 +35,19 @@ returns-clause-any_moment g c =
     (subst (λ (changes : List Change). LeavesOnly (HasRows c.reach_other.new.self.limit (rows_of changes)) S1 S2) c.reach_other.ensures.acknowledged
     c.go_over.ensures.any_moment) in
     run_on (HasRows j.limit (rows_of A)) S0 S1 S2 c.reach_other.ensures.any_moment same
+
+pub returns-in_err-go_over-clause-syncs : goal.returns-in_err-go_over-clause-syncs
+returns-in_err-go_over-clause-syncs g c =
+    let D = g.D.Disk.state in
+    let S0 = D c.args.self.now.disk in
+    let S1 = D c.reach_other.new.self.disk in
+    let S2 = D c.go_over.new.self.disk in
+    more_syncs S0 S1 S2 c.reach_other.ensures.syncs c.reach_other.ensures.any_moment.tells c.go_over.ensures.syncs
+
+pub returns-clause-syncs : goal.returns-clause-syncs
+returns-clause-syncs g c =
+    let D = g.D.Disk.state in
+    let S0 = D c.args.self.now.disk in
+    let S1 = D c.reach_other.new.self.disk in
+    let S2 = D c.go_over.new.self.disk in
+    more_syncs S0 S1 S2 c.reach_other.ensures.syncs c.reach_other.ensures.any_moment.tells c.go_over.ensures.syncs
