@@ -1,11 +1,10 @@
 -- A row that comes, for which memory is held.
-use Rattle.std.proofs.Common.{◌≡◌, ◌≢◌, ℕ, zero, suc, ◌+◌, ◌-◌, ◌%◌, ◌<◌, ◌≤◌, ◌⊎◌, Bool, true, false, cond, eqb, leb, ltb, List, [], ◌∷◌, ◌++◌, length, get_or, set, map, Option, Some, None, Vec, is_none, is_some, inl, inr, refl, sym, ap, ◌∙◌, subst, arith}
-use mathlib.Core.Bool.{not, ◌&&◌, ◌||◌}
-use Rattle.std.specs.List.{All, AllPairs, filter, find, list_all, slice_get, sum_by}
+use Rattle.std.proofs.Common.{◌≡◌, ℕ, ◌+◌, ◌%◌, ◌<◌, ◌≤◌, Bool, true, cond, eqb, leb, ltb, List, [], ◌∷◌, ◌++◌, length, get_or, set, map, Option, Some, None, Vec, is_none, is_some, refl, sym, ap, ◌∙◌, subst, arith}
+use Rattle.std.specs.List.{All, AllPairs, find, list_all, sum_by}
 use Rattle.std.specs.Option.{option_map}
 use Rattle.std.specs.Str.{bytes_eq}
 use Rattle.std.specs.Vec.{vec_len, vec_capacity}
-use Rattle.std.proofs.lemmas.Bool.{false≢true, eqb-true, not-true, leb-true, ltb-true, and_parts, eq-eqb}
+use Rattle.std.proofs.lemmas.Bool.{false≢true, leb-true, ltb-true, and_parts}
 use Rattle.fam_base.specs.Name.{is_good_name}
 use Rattle.fam_base.specs.declared.naming.ItemId.{ItemId}
 use Rattle.fam_base.specs.declared.naming.RegionId.{RegionId}
@@ -18,7 +17,7 @@ use Rattle.fam_model.specs.Directory.{after}
 use Rattle.fam_model.specs.Lawful.{is_lawful_change, is_good_row, is_next_number}
 use Rattle.fam_model.specs.Limits.{max_region_size, max_total_size, max_regions, max_items, number_end, nobody}
 use Rattle.fam_model.specs.Lists.{is_some_and, place_of}
-use Rattle.fam_model.specs.Rows.{IsLawful, region_number, item_number, region_of, region_named, item_named, items_in, total_size, room, is_beside, fits}
+use Rattle.fam_model.specs.Rows.{IsLawful, region_number, region_of, region_named, item_named, items_in, total_size, room, is_beside, fits}
 use Rattle.fam_rows.proofs.Keeping.{keeps_law}
 use Rattle.fam_rows.proofs.Places.{rises}
 use Rattle.fam_rows.proofs.Standing.{three_parts, four_parts, five_parts, value_tested, nothing_there}
@@ -28,7 +27,7 @@ use Rattle.fam_directory.specs.declared.region.Coming.{Coming}
 use Rattle.fam_directory.specs.declared.region.Region.{Region}
 use Rattle.fam_directory.specs.Index.{HasRoom, IsAwaited, IsIndexOf, IsIndexed, NewName, adds_item, adds_region, new_name, number_of, rows_of, waits_for}
 use Rattle.fam_directory.specs.Names.{NameMap, named}
-use Rattle.fam_directory.proofs.Changed.{has_place_there, number_at, new_rows, created}
+use Rattle.fam_directory.proofs.Changed.{number_at, new_rows, created}
 use Rattle.fam_directory.proofs.Indexes.{replaced}
 use Rattle.fam_directory.proofs.Lookups.{numbers_rise}
 use Rattle.fam_directory.proofs.Moves.{map_set_same, set_all}

@@ -1,39 +1,34 @@
 -- Each change of the rows, and of the indexes with them.
-use Rattle.std.proofs.Common.{◌≡◌, ◌≢◌, ℕ, zero, suc, ◌+◌, ◌-◌, ◌%◌, ◌<◌, ◌≤◌, ◌⊎◌, Bool, true, false, cond, eqb, leb, ltb, List, [], ◌∷◌, ◌++◌, length, get_or, set, map, Option, Some, None, is_none, is_some, inl, inr, refl, sym, ap, ◌∙◌, subst, arith}
-use mathlib.Core.Bool.{not, ◌&&◌, ◌||◌}
-use Rattle.std.specs.List.{All, AllPairs, filter, find, list_all, list_any, remove, slice_get, sum_by}
+use Rattle.std.proofs.Common.{◌≡◌, ℕ, ◌+◌, ◌<◌, Bool, true, cond, eqb, leb, ltb, List, [], ◌∷◌, ◌++◌, length, get_or, set, map, Option, Some, None, is_none, is_some, refl, sym, ap, ◌∙◌, subst, arith}
+use Rattle.std.specs.List.{find, list_all, slice_get, sum_by}
 use Rattle.std.specs.Option.{option_map}
 use Rattle.std.specs.Str.{bytes_eq}
-use Rattle.std.proofs.lemmas.Bool.{cases_Bool, cases_eq, cases_lt, false≢true, eqb-true, eq-eqb, ne_eqb, not-true, not-false, not_from_false, not_from_true, leb-true, leb-false, ltb-true, or_cases, and_parts, false_from_ne_true}
-use Rattle.std.proofs.lemmas.List.{map-set, map_push, get_or-map, length-map, get_or_default, append-nil}
-use Rattle.std.proofs.lemmas.List.Elements.{All-head, All-tail, All-filter, All-push, All-weaker, All-cons, All-nil, filter_passes, filter-append}
-use Rattle.std.proofs.lemmas.List.Folds.{list_all-append}
+use Rattle.std.proofs.lemmas.Bool.{eqb-true, and_parts}
+use Rattle.std.proofs.lemmas.List.{map_push, get_or_default}
+use Rattle.std.proofs.lemmas.List.Elements.{All-push}
 use Rattle.std.proofs.lemmas.List.Sums.{sum_by-append}
 use Rattle.fam_base.specs.declared.naming.ItemId.{ItemId}
 use Rattle.fam_base.specs.declared.naming.RegionId.{RegionId}
-use Rattle.fam_model.specs.declared.change.Change.{Change}
 use Rattle.fam_model.specs.declared.change.Change.TheVariants as change
 use Rattle.fam_model.specs.declared.rows.ItemRow.{ItemRow}
 use Rattle.fam_model.specs.declared.rows.RegionRow.{RegionRow}
 use Rattle.fam_model.specs.declared.rows.Rows.{Rows}
 use Rattle.fam_model.specs.Directory.{after}
-use Rattle.fam_model.specs.Lawful.{is_lawful_change, is_good_row, is_next_number, is_common}
-use Rattle.fam_model.specs.Limits.{max_region_size, max_total_size, max_regions, max_items}
-use Rattle.fam_model.specs.Lists.{◌>>=◌, change_number, drop_number, find_number, is_some_and, place_of}
-use Rattle.fam_model.specs.Rows.{IsLawful, AreApart, region_number, item_number, region_of, item_of, region_named, item_named, items_in, total_size, room, room_end, is_beside, fits}
+use Rattle.fam_model.specs.Lawful.{is_lawful_change, is_good_row, is_next_number}
+use Rattle.fam_model.specs.Limits.{max_total_size, max_regions}
+use Rattle.fam_model.specs.Lists.{◌>>=◌, is_some_and, place_of}
+use Rattle.fam_model.specs.Rows.{IsLawful, region_number, item_number, region_of, region_named, items_in, total_size}
 use Rattle.fam_rows.proofs.Keeping.{keeps_law}
 use Rattle.fam_rows.proofs.Places.{rises}
-use Rattle.fam_rows.proofs.Searches.{passes_found, lawful_region}
-use Rattle.fam_rows.proofs.Standing.{three_parts, five_parts, value_tested, nothing_there, region_is}
-use Rattle.region_alloc.specs.declared.extent.Extent.{Extent}
-use Rattle.region_alloc.specs.Items.{IsSpaceOf, room_of}
-use Rattle.region_alloc.specs.Space.{has_room, room_at, with_room, without_room}
+use Rattle.fam_rows.proofs.Searches.{lawful_region}
+use Rattle.fam_rows.proofs.Standing.{five_parts, value_tested, nothing_there}
+use Rattle.region_alloc.specs.Items.{room_of}
 use Rattle.fam_directory.specs.declared.region.Region.{Region}
 use Rattle.fam_directory.specs.Index.{IsIndexOf, IsIndexed, number_of, rows_of}
 use Rattle.fam_directory.specs.Names.{NameMap, named}
-use Rattle.fam_directory.proofs.Lookups.{numbers_rise, items_of_none, at_place, has_number, region_of_is}
-use Rattle.fam_directory.proofs.Indexes.{index_stays, index_kept, index_bare, bare, grown_elsewhere, items_here, with_room_all, row_changed, replaced}
-use Rattle.fam_directory.proofs.Moves.{map_filter, filter_swap, filter_kept, filter_alike, list_all_filter, list_all_weaker, some_passes, one_passes, removed_is, set_all, changed_is, map_set_same, sum_removed, number_in, name_added, name_removed, AreOthers, others_differ}
+use Rattle.fam_directory.proofs.Lookups.{items_of_none, at_place, has_number, region_of_is}
+use Rattle.fam_directory.proofs.Indexes.{index_kept, index_bare, bare, row_changed, replaced}
+use Rattle.fam_directory.proofs.Moves.{changed_is, map_set_same, number_in, name_added}
 
 -- the region of a number that is there has a place
 pub has_place_there : (regions : List Region) (items : List ItemRow) (a b n : ℕ) (test : RegionRow → Bool) → is_some_and (region_of (rows_of regions items a b) n) test ≡ true → is_some (place_of number_of n regions) ≡ true

@@ -1,8 +1,7 @@
 -- A region that goes, with its items and its index.
-use Rattle.std.proofs.Common.{◌≡◌, ◌≢◌, ℕ, zero, suc, ◌+◌, ◌-◌, ◌<◌, ◌≤◌, ◌⊎◌, Bool, true, false, cond, eqb, List, [], ◌∷◌, ◌++◌, length, get_or, map, Option, Some, None, inl, inr, refl, sym, ap, ◌∙◌, subst, arith}
+use Rattle.std.proofs.Common.{◌≡◌, ◌≢◌, ℕ, ◌-◌, ◌<◌, Bool, true, cond, eqb, List, length, get_or, map, None, inl, inr, sym, ap, ◌∙◌, subst, arith}
 use mathlib.Core.Bool.{not}
-use Rattle.std.specs.List.{All, AllPairs, filter, find, remove, sum_by}
-use Rattle.std.specs.Option.{option_map}
+use Rattle.std.specs.List.{All, AllPairs, filter, remove, sum_by}
 use Rattle.std.specs.Str.{bytes_eq}
 use Rattle.std.proofs.lemmas.Bool.{cases_eq, cases_lt, eqb-true, eqb-false, ne_eqb, not-true, not_from_false}
 use Rattle.std.proofs.lemmas.List.{get_or-map, length-map, get_or_default}
@@ -15,7 +14,7 @@ use Rattle.fam_model.specs.declared.rows.Rows.{Rows}
 use Rattle.fam_model.specs.Directory.{after}
 use Rattle.fam_model.specs.Lawful.{is_lawful_change}
 use Rattle.fam_model.specs.Lists.{drop_number}
-use Rattle.fam_model.specs.Rows.{IsLawful, region_number, items_in, total_size}
+use Rattle.fam_model.specs.Rows.{IsLawful, region_number}
 use Rattle.fam_rows.proofs.Keeping.{keeps_law}
 use Rattle.fam_rows.proofs.Places.{rises}
 use Rattle.fam_directory.specs.declared.region.Region.{Region}

@@ -1,23 +1,23 @@
 -- Indexes stay those of the rows where both change alike.
-use Rattle.std.proofs.Common.{◌≡◌, ◌≢◌, ℕ, zero, suc, ◌+◌, ◌<◌, ◌≤◌, ◌⊎◌, Bool, true, false, cond, eqb, leb, ltb, List, [], ◌∷◌, ◌++◌, length, get_or, set, map, Option, Some, None, inl, inr, refl, sym, ap, ◌∙◌, subst, arith}
-use mathlib.Core.Bool.{not, ◌&&◌, ◌||◌}
-use Rattle.std.specs.List.{All, AllPairs, filter, find, list_all, list_any, remove, sum_by}
+use Rattle.std.proofs.Common.{◌≡◌, ◌≢◌, ℕ, ◌+◌, ◌<◌, Bool, true, false, eqb, ltb, List, [], ◌∷◌, ◌++◌, length, get_or, set, map, Option, Some, None, inl, inr, refl, sym, ap, ◌∙◌, arith}
+use mathlib.Core.Bool.{not, ◌&&◌}
+use Rattle.std.specs.List.{filter, find, list_all, sum_by}
 use Rattle.std.specs.Option.{option_map}
 use Rattle.std.specs.Str.{bytes_eq}
-use Rattle.std.proofs.lemmas.Bool.{cases_Bool, cases_eq, cases_order, lt-ltb, le-ltb, false≢true, eqb-true, eq-eqb, ne_eqb, not-true, not_from_false, leb-true, or_cases, and_parts}
+use Rattle.std.proofs.lemmas.Bool.{cases_order, lt-ltb, le-ltb, false≢true, eq-eqb, ne_eqb, not-true, and_parts}
 use Rattle.std.proofs.lemmas.List.{map-set, get_or-map, length-map, append-nil}
-use Rattle.std.proofs.lemmas.List.Elements.{All-head, All-tail, All-filter, filter_passes, filter-append}
+use Rattle.std.proofs.lemmas.List.Elements.{filter-append}
 use Rattle.std.proofs.lemmas.List.Folds.{list_all-append}
 use Rattle.std.proofs.lemmas.List.Sums.{sum_by-set}
 use Rattle.fam_model.specs.declared.rows.ItemRow.{ItemRow}
 use Rattle.fam_model.specs.declared.rows.RegionRow.{RegionRow}
 use Rattle.fam_model.specs.declared.rows.Rows.{Rows}
 use Rattle.fam_model.specs.Lists.{change_number}
-use Rattle.fam_model.specs.Rows.{IsLawful, region_number, item_number, region_named, item_named, items_in, total_size, room, is_beside}
+use Rattle.fam_model.specs.Rows.{IsLawful, region_number, item_number, items_in}
 use Rattle.fam_rows.proofs.Places.{rises}
 use Rattle.region_alloc.specs.declared.extent.Extent.{Extent}
-use Rattle.region_alloc.specs.Items.{IsSpaceOf, room_of}
-use Rattle.region_alloc.specs.Space.{room_at, with_room, without_room}
+use Rattle.region_alloc.specs.Items.{room_of}
+use Rattle.region_alloc.specs.Space.{room_at, with_room}
 use Rattle.fam_directory.specs.declared.region.Region.{Region}
 use Rattle.fam_directory.specs.Index.{IsIndexOf, IsIndexed, number_of, rows_of}
 use Rattle.fam_directory.specs.Names.{NameEntry, NameMap, named}

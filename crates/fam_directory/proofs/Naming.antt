@@ -1,5 +1,5 @@
 -- What a map from names to numbers finds after a change.
-use Rattle.std.proofs.Common.{◌≡◌, ℕ, Bool, true, false, cond, List, [], ◌∷◌, Option, Some, None, Vec, Result, Ok, Err, inl, inr, refl, sym, ap, ◌∙◌}
+use Rattle.std.proofs.Common.{◌≡◌, ℕ, true, false, cond, List, [], ◌∷◌, Option, Vec, Result, Ok, Err, inl, inr, refl, sym, ap, ◌∙◌}
 use Rattle.std.specs.List.{find}
 use Rattle.std.specs.Map.{lookup, KeepsOthers}
 use Rattle.std.specs.Option.{option_map}

@@ -1,33 +1,27 @@
 -- A new item, and an item that goes, in the rows and in the index of its region.
-use Rattle.std.proofs.Common.{◌≡◌, ◌≢◌, ℕ, zero, suc, ◌+◌, ◌-◌, ◌%◌, ◌<◌, ◌≤◌, ◌⊎◌, Bool, true, false, cond, eqb, leb, ltb, List, [], ◌∷◌, ◌++◌, length, get_or, set, map, Option, Some, None, is_none, is_some, inl, inr, refl, sym, ap, ◌∙◌, subst, arith}
+use Rattle.std.proofs.Common.{◌≡◌, ◌≢◌, ℕ, ◌+◌, ◌<◌, ◌≤◌, ◌⊎◌, Bool, true, false, cond, eqb, leb, List, [], ◌∷◌, ◌++◌, length, get_or, set, Some, None, inl, inr, refl, sym, ap, ◌∙◌, subst, arith}
 use mathlib.Core.Bool.{not, ◌&&◌, ◌||◌}
-use Rattle.std.specs.List.{All, AllPairs, filter, find, list_all, list_any, remove, slice_get}
+use Rattle.std.specs.List.{All, AllPairs, filter, find, list_all}
 use Rattle.std.specs.Option.{option_map}
 use Rattle.std.specs.Str.{bytes_eq}
-use Rattle.std.proofs.lemmas.Bool.{cases_Bool, cases_eq, cases_lt, false≢true, eqb-true, eq-eqb, ne_eqb, not-true, not_from_false, leb-true, ltb-true, or_cases, and_parts}
+use Rattle.std.proofs.lemmas.Bool.{cases_eq, cases_lt, eqb-true, eq-eqb, ne_eqb, not_from_false, leb-true, or_cases}
 use Rattle.std.proofs.lemmas.List.{get_or_default}
 use Rattle.std.proofs.lemmas.List.Elements.{All-filter, filter_passes}
 use Rattle.std.proofs.lemmas.List.Folds.{list_all-append}
-use Rattle.fam_base.specs.declared.naming.ItemId.{ItemId}
 use Rattle.fam_base.specs.declared.naming.RegionId.{RegionId}
-use Rattle.fam_model.specs.declared.change.Change.TheVariants as change
 use Rattle.fam_model.specs.declared.rows.ItemRow.{ItemRow}
 use Rattle.fam_model.specs.declared.rows.RegionRow.{RegionRow}
 use Rattle.fam_model.specs.declared.rows.Rows.{Rows}
-use Rattle.fam_model.specs.Directory.{after}
-use Rattle.fam_model.specs.Lawful.{is_lawful_change}
-use Rattle.fam_model.specs.Rows.{IsLawful, AreApart, region_number, item_number, item_named, items_in, room, room_end, is_beside, fits}
-use Rattle.fam_rows.proofs.Keeping.{keeps_law}
+use Rattle.fam_model.specs.Rows.{IsLawful, region_number, item_number, item_named, items_in, room, room_end, is_beside}
 use Rattle.fam_rows.proofs.Places.{rises}
 use Rattle.region_alloc.specs.declared.extent.Extent.{Extent}
 use Rattle.region_alloc.specs.Items.{room_of}
-use Rattle.region_alloc.specs.Space.{has_room, room_at, with_room, without_room}
+use Rattle.region_alloc.specs.Space.{has_room, with_room, without_room}
 use Rattle.fam_directory.specs.declared.region.Region.{Region}
-use Rattle.fam_directory.specs.Index.{IsIndexOf, IsIndexed, number_of, rows_of}
-use Rattle.fam_directory.specs.Names.{NameMap, named}
-use Rattle.fam_directory.proofs.Lookups.{numbers_rise}
+use Rattle.fam_directory.specs.Index.{IsIndexOf, number_of}
+use Rattle.fam_directory.specs.Names.{named}
 use Rattle.fam_directory.proofs.Indexes.{index_kept, grown_elsewhere, items_here, with_room_all}
-use Rattle.fam_directory.proofs.Moves.{filter_swap, filter_kept, filter_alike, list_all_filter, list_all_weaker, some_passes, one_passes, removed_is, set_all, map_set_same, name_added, name_removed, others_differ}
+use Rattle.fam_directory.proofs.Moves.{filter_swap, filter_kept, filter_alike, list_all_filter, list_all_weaker, some_passes, one_passes, set_all, name_added, name_removed, others_differ}
 
 -- a new item in the index of its region
 

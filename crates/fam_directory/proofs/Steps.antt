@@ -1,13 +1,11 @@
 -- One change, as the steps of a call make it.
-use Rattle.std.proofs.Common.{◌≡◌, ◌≢◌, ℕ, zero, suc, ◌+◌, ◌-◌, ◌%◌, ◌<◌, ◌≤◌, ◌⊎◌, Bool, true, false, cond, eqb, leb, ltb, List, [], ◌∷◌, ◌++◌, length, get_or, set, map, Option, Some, None, Vec, is_none, is_some, inl, inr, refl, sym, ap, ◌∙◌, subst, arith}
-use mathlib.Core.Bool.{not, ◌&&◌, ◌||◌}
-use Rattle.std.specs.List.{All, AllPairs, filter, find, list_all, list_any, remove, slice_get, sum_by}
+use Rattle.std.proofs.Common.{◌≡◌, ℕ, ◌+◌, ◌-◌, ◌<◌, ◌≤◌, Bool, true, false, cond, eqb, leb, List, length, get_or, set, map, Option, Some, None, is_some, refl, sym, ap, ◌∙◌, subst, arith}
+use mathlib.Core.Bool.{not, ◌&&◌}
+use Rattle.std.specs.List.{filter, find, remove, slice_get, sum_by}
 use Rattle.std.specs.Option.{option_map}
 use Rattle.std.specs.Str.{bytes_eq}
-use Rattle.std.specs.Vec.{vec_len, vec_capacity}
-use Rattle.std.proofs.lemmas.Bool.{false≢true, eqb-true, not-true, leb-true, ltb-true, and_parts, eq-eqb}
+use Rattle.std.proofs.lemmas.Bool.{not-true, leb-true, and_parts}
 use Rattle.std.proofs.lemmas.List.{get_or_default, get_or-map, length-map}
-use Rattle.fam_base.specs.Name.{is_good_name}
 use Rattle.fam_base.specs.declared.naming.ItemId.{ItemId}
 use Rattle.fam_base.specs.declared.naming.RegionId.{RegionId}
 use Rattle.fam_model.specs.declared.change.Change.TheVariants as change
@@ -15,24 +13,23 @@ use Rattle.fam_model.specs.declared.rows.ItemRow.{ItemRow}
 use Rattle.fam_model.specs.declared.rows.RegionRow.{RegionRow}
 use Rattle.fam_model.specs.declared.rows.Rows.{Rows}
 use Rattle.fam_model.specs.Directory.{after, cuts_item}
-use Rattle.fam_model.specs.Lawful.{is_lawful_change, is_good_row, is_next_number, is_common}
-use Rattle.fam_model.specs.Limits.{max_region_size, max_total_size, max_regions, max_items, number_end, nobody}
+use Rattle.fam_model.specs.Lawful.{is_lawful_change, is_common}
+use Rattle.fam_model.specs.Limits.{max_region_size, max_total_size}
 use Rattle.fam_model.specs.Lists.{◌>>=◌, is_some_and, place_of}
-use Rattle.fam_model.specs.Rows.{IsLawful, region_number, item_number, region_of, item_of, region_named, item_named, items_in, total_size, room, is_beside, fits}
+use Rattle.fam_model.specs.Rows.{IsLawful, region_number, item_number, region_of, item_of, total_size}
 use Rattle.fam_rows.proofs.Keeping.{keeps_law}
 use Rattle.fam_rows.proofs.Places.{rises}
-use Rattle.fam_rows.proofs.Standing.{three_parts, four_parts, five_parts, value_tested, nothing_there}
-use Rattle.region_alloc.proofs.Bases.{place_is_base, cut_is_cut}
-use Rattle.region_alloc.specs.Space.{has_place, has_room, is_cut_at, with_room, without_room}
-use Rattle.fam_directory.specs.declared.region.Coming.{Coming}
+use Rattle.fam_rows.proofs.Standing.{three_parts, value_tested}
+use Rattle.region_alloc.proofs.Bases.{cut_is_cut}
+use Rattle.region_alloc.specs.Space.{has_room, is_cut_at, without_room}
 use Rattle.fam_directory.specs.declared.region.Region.{Region}
-use Rattle.fam_directory.specs.Index.{HasRoom, IsAwaited, IsIndexOf, IsIndexed, NewName, new_name, number_of, rows_of, waits_for}
+use Rattle.fam_directory.specs.Index.{IsIndexOf, IsIndexed, number_of, rows_of}
 use Rattle.fam_directory.specs.Names.{NameMap, named}
-use Rattle.fam_directory.proofs.Changed.{has_place_there, number_at, item_at, mode_rows, mode_changed, size_rows, size_changed, item_rows, item_changed, new_rows, created}
+use Rattle.fam_directory.proofs.Changed.{has_place_there, number_at, item_at, mode_rows, mode_changed, size_rows, size_changed, item_rows, item_changed}
 use Rattle.fam_directory.proofs.Destroyed.{destroyed, destroyed_rows, outside}
-use Rattle.fam_directory.proofs.Lookups.{numbers_rise, at_place, has_number, region_of_is, row_number}
+use Rattle.fam_directory.proofs.Lookups.{numbers_rise, at_place, region_of_is}
 use Rattle.fam_directory.proofs.Moves.{map_set_same, removed_is, sum_removed}
-use Rattle.fam_directory.proofs.Placed.{index_grown, indexes_grown, index_shrunk, indexes_shrunk, room_is_there}
+use Rattle.fam_directory.proofs.Placed.{index_shrunk, indexes_shrunk, room_is_there}
 
 -- which regions and items are there
 

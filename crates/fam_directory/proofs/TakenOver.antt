@@ -1,12 +1,12 @@
 -- Rows taken over one by one.
-use Rattle.std.proofs.Common.{◌≡◌, ◌≢◌, ℕ, zero, suc, ◌+◌, ◌%◌, ◌<◌, ◌≤◌, ◌⊎◌, Bool, true, false, cond, eqb, leb, List, [], ◌∷◌, ◌++◌, length, get_or, take, map, Option, Some, None, inl, inr, refl, sym, ap, ◌∙◌, subst, arith}
-use mathlib.Core.Bool.{◌&&◌, ◌||◌}
+use Rattle.std.proofs.Common.{◌≡◌, ◌≢◌, ℕ, ◌+◌, ◌%◌, ◌<◌, ◌≤◌, true, cond, eqb, leb, List, [], ◌∷◌, ◌++◌, length, get_or, take, map, Some, None, inl, inr, refl, sym, ap, ◌∙◌, subst, arith}
+use mathlib.Core.Bool.{◌&&◌}
 use Rattle.std.specs.List.{All, AllPairs, filter, find, list_all}
 use Rattle.std.specs.List.Sorted.{IsStrictlyIncreasing}
 use Rattle.std.specs.Option.{option_map}
 use Rattle.std.specs.Str.{bytes_eq}
 use Rattle.std.proofs.lemmas.Bool.{cases_Bool, eqb-true, eq-eqb, le-leb, and_from, or_left, or_right, false_from_ne_true}
-use Rattle.std.proofs.lemmas.List.{get_or-take, length-take, length-take-le, take_more, take_all, get_or_default}
+use Rattle.std.proofs.lemmas.List.{get_or-take, length-take-le, take_more, take_all, get_or_default}
 use Rattle.std.proofs.lemmas.List.Elements.{All-head, All-tail}
 use Rattle.fam_base.specs.declared.naming.RegionId.{RegionId}
 use Rattle.fam_model.specs.declared.rows.ItemRow.{ItemRow}
@@ -15,7 +15,6 @@ use Rattle.fam_model.specs.declared.rows.Rows.{Rows}
 use Rattle.fam_model.specs.Lists.{find_number, is_some_and}
 use Rattle.fam_model.specs.Rows.{IsLawful, AreApart, region_number, region_of, item_named, items_in, room, room_end, is_beside, fits}
 use Rattle.fam_rows.proofs.Standing.{tested}
-use Rattle.region_alloc.specs.Items.{room_of}
 use Rattle.fam_directory.specs.declared.region.Region.{Region}
 use Rattle.fam_directory.specs.Index.{IsIndexOf, number_of, rows_of, named_in, without_items}
 use Rattle.fam_directory.specs.Names.{NameMap, named}

@@ -1,7 +1,6 @@
-use Rattle.std.proofs.Common.{◌≡◌, ◌<◌, ◌+◌, [], map, length, get_or, take, refl, sym, ap, subst, ◌∙◌, arith}
-use Rattle.std.specs.List.{All}
+use Rattle.std.proofs.Common.{◌<◌, ◌+◌, length, get_or, take, sym, ap, subst, ◌∙◌}
 use Rattle.std.proofs.lemmas.List.{take_all}
-use Rattle.fam_directory.specs.Index.{IsIndexOf, rows_of, without_items}
+use Rattle.fam_directory.specs.Index.{rows_of, without_items}
 use Rattle.fam_directory.proofs.TakenOver.{absent_so_far, fits_so_far, indexes_same, item_more, rising_so_far}
 use Rattle.fam_directory.proofs.building.add_items.Goals as goal
 

@@ -1,4 +1,4 @@
-use Rattle.std.proofs.Common.{Some, None, cond, sym, ap, ◌∙◌}
+use Rattle.std.proofs.Common.{Some, cond, ap, ◌∙◌}
 use Rattle.std.specs.Str.{bytes_eq}
 use Rattle.fam_directory.specs.Names.{named}
 use Rattle.fam_directory.proofs.building.add_name.Goals as goal

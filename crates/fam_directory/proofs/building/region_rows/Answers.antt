@@ -1,6 +1,5 @@
-use Rattle.std.proofs.Common.{◌++◌, [], ◌∷◌, map, sym, ap, ◌∙◌, arith}
+use Rattle.std.proofs.Common.{◌++◌, [], ◌∷◌, map, sym, ap, ◌∙◌}
 use Rattle.std.proofs.lemmas.List.{map_more, take_all}
-use Rattle.fam_model.specs.declared.rows.RegionRow.{RegionRow}
 use Rattle.fam_directory.specs.declared.region.Region.{Region}
 use Rattle.fam_directory.proofs.building.region_rows.Goals as goal
 

@@ -1,12 +1,12 @@
-use Rattle.std.proofs.Common.{◌≡◌, ◌<◌, ◌+◌, ◌++◌, [], ◌∷◌, cond, true, refl, Some, None, is_some, length, map, sym, ap, subst, ◌∙◌, arith}
+use Rattle.std.proofs.Common.{◌≡◌, ◌<◌, true, Some, is_some, length, map, sym, ap, subst, ◌∙◌, arith}
 use Rattle.std.specs.List.Sorted.{IsStrictlyIncreasing}
 use Rattle.std.specs.Option.{option_map}
 use Rattle.fam_model.specs.declared.change.Change.TheVariants as change
 use Rattle.fam_model.specs.Directory.{after}
 use Rattle.fam_model.specs.Lawful.{is_lawful_change}
 use Rattle.fam_model.specs.Lists.{place_of}
-use Rattle.fam_model.specs.Rows.{region_number, item_number}
-use Rattle.fam_directory.specs.Index.{IsIndexed, IsReserved, new_name, number_of, rows_of, waits_for}
+use Rattle.fam_model.specs.Rows.{item_number}
+use Rattle.fam_directory.specs.Index.{IsReserved, number_of, rows_of, waits_for}
 use Rattle.fam_directory.specs.Names.{named}
 use Rattle.fam_directory.proofs.Lookups.{numbers_rise}
 use Rattle.fam_model.specs.Rows.{fits, item_named}

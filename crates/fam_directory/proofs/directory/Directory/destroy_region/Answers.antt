@@ -1,10 +1,9 @@
-use Rattle.std.proofs.Common.{◌≡◌, ◌<◌, true, Some, None, is_some, length, map, sym, ap, subst, ◌∙◌, arith}
+use Rattle.std.proofs.Common.{◌≡◌, ◌<◌, true, Some, None, is_some, length, map, sym, ap, subst, ◌∙◌}
 use Rattle.std.specs.List.Sorted.{IsStrictlyIncreasing}
 use Rattle.fam_model.specs.declared.change.Change.TheVariants as change
 use Rattle.fam_model.specs.Directory.{after}
 use Rattle.fam_model.specs.Lawful.{is_lawful_change}
 use Rattle.fam_model.specs.Lists.{place_of}
-use Rattle.fam_model.specs.Rows.{item_number}
 use Rattle.std.proofs.Common.{◌-◌, cond}
 use Rattle.std.specs.Str.{bytes_eq}
 use Rattle.fam_directory.specs.Names.{named}

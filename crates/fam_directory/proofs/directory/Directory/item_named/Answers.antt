@@ -1,5 +1,4 @@
-use Rattle.fam_directory.proofs.Lookups.{item_from_name, no_row}
-use Rattle.fam_model.specs.Rows.{region_number, item_number}
+use Rattle.fam_directory.proofs.Lookups.{item_from_name}
 use Rattle.fam_directory.proofs.directory.Directory.item_named.Goals as goal
 
 pub returns-in-Some : goal.returns-in-Some

@@ -1,9 +1,8 @@
 use Rattle.std.proofs.Common.{◌≡◌, ◌≢◌, List, sym, ap, subst, ◌∙◌}
-use Rattle.std.specs.List.{All, AllPairs}
+use Rattle.std.specs.List.{AllPairs}
 use Rattle.fam_model.specs.declared.rows.RegionRow.{RegionRow}
 use Rattle.fam_model.specs.declared.rows.Rows.{Rows}
-use Rattle.fam_model.specs.Rows.{IsLawful}
-use Rattle.fam_directory.specs.Index.{IsIndexOf, IsIndexed, named_in, rows_of}
+use Rattle.fam_directory.specs.Index.{IsIndexed, named_in, rows_of}
 use Rattle.fam_directory.proofs.directory.Directory.of_rows.Goals as goal
 
 -- the rows are those that were given

@@ -1,12 +1,7 @@
-use Rattle.std.proofs.Common.{◌≡◌, ◌<◌, true, Some, None, is_some, length, map, set, sym, ap, subst, ◌∙◌, arith}
-use Rattle.std.specs.List.Sorted.{IsStrictlyIncreasing}
+use Rattle.std.proofs.Common.{Some, sym, ap, subst, ◌∙◌, arith}
 use Rattle.std.specs.Option.{option_map}
 use Rattle.fam_base.specs.declared.naming.RegionId.{RegionId}
-use Rattle.fam_model.specs.Lists.{is_some_and, place_of}
-use Rattle.fam_model.specs.Rows.{region_of}
-use Rattle.fam_rows.proofs.Places.{rises}
-use Rattle.fam_directory.specs.Index.{IsIndexed, NewName, number_of, rows_of}
-use Rattle.fam_directory.proofs.Lookups.{numbers_rise}
+use Rattle.fam_directory.specs.Index.{IsIndexed, NewName, rows_of}
 use Rattle.fam_directory.proofs.Adding.{holds_region, renamed_index}
 use Rattle.fam_directory.proofs.directory.Directory.reserve_region.Goals as goal
 

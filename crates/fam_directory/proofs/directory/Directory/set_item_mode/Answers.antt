@@ -1,12 +1,10 @@
-use Rattle.std.proofs.Common.{◌≡◌, ◌<◌, true, Some, None, is_some, length, map, sym, ap, subst, ◌∙◌, arith}
+use Rattle.std.proofs.Common.{◌≡◌, ◌<◌, true, Some, is_some, length, map, sym, ap, subst, ◌∙◌}
 use Rattle.std.specs.List.Sorted.{IsStrictlyIncreasing}
 use Rattle.fam_model.specs.declared.change.Change.TheVariants as change
 use Rattle.fam_model.specs.Directory.{after}
 use Rattle.fam_model.specs.Lawful.{is_lawful_change}
 use Rattle.fam_model.specs.Lists.{place_of}
 use Rattle.fam_model.specs.Rows.{item_number}
-use Rattle.fam_directory.specs.Index.{number_of}
-use Rattle.fam_directory.proofs.Lookups.{numbers_rise}
 use Rattle.fam_directory.proofs.Steps.{item_step, item_mode_there}
 use Rattle.fam_directory.proofs.directory.Directory.set_item_mode.Goals as goal
 

@@ -1,10 +1,9 @@
-use Rattle.std.proofs.Common.{◌≡◌, ◌<◌, true, Some, None, is_some, length, map, sym, ap, subst, ◌∙◌, arith}
+use Rattle.std.proofs.Common.{◌≡◌, ◌<◌, true, Some, is_some, length, map, sym, ap, subst, ◌∙◌}
 use Rattle.std.specs.List.Sorted.{IsStrictlyIncreasing}
 use Rattle.fam_model.specs.declared.change.Change.TheVariants as change
 use Rattle.fam_model.specs.Directory.{after}
 use Rattle.fam_model.specs.Lawful.{is_lawful_change}
 use Rattle.fam_model.specs.Lists.{place_of}
-use Rattle.fam_model.specs.Rows.{item_number}
 use Rattle.fam_directory.specs.Index.{number_of}
 use Rattle.fam_directory.proofs.Lookups.{numbers_rise}
 use Rattle.fam_directory.proofs.Steps.{mode_step, mode_there}

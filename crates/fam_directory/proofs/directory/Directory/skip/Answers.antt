@@ -1,12 +1,7 @@
-use Rattle.std.proofs.Common.{◌≡◌, ◌<◌, true, Some, None, is_some, length, map, sym, ap, subst, ◌∙◌, arith}
-use Rattle.std.specs.List.Sorted.{IsStrictlyIncreasing}
+use Rattle.std.proofs.Common.{◌≡◌, true, sym, ap, subst}
 use Rattle.fam_model.specs.declared.change.Change.TheVariants as change
 use Rattle.fam_model.specs.Directory.{after}
 use Rattle.fam_model.specs.Lawful.{is_lawful_change}
-use Rattle.fam_model.specs.Lists.{place_of}
-use Rattle.fam_model.specs.Rows.{item_number}
-use Rattle.fam_directory.specs.Index.{number_of}
-use Rattle.fam_directory.proofs.Lookups.{numbers_rise}
 use Rattle.fam_directory.proofs.Changed.{skipped}
 use Rattle.fam_directory.proofs.directory.Directory.skip.Goals as goal
 

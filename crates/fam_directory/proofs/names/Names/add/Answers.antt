@@ -1,4 +1,4 @@
-use Rattle.std.proofs.Common.{◌≡◌, ◌<◌, Some, cond, ◌∙◌, ap, sym}
+use Rattle.std.proofs.Common.{Some, cond, ◌∙◌, ap}
 use Rattle.std.specs.Str.{bytes_eq}
 use Rattle.std.proofs.lemmas.Bool.{ltb-true}
 use Rattle.fam_directory.specs.Names.{named}
