@@ -2,3 +2,5 @@ pub mod Outcomes
 pub mod Patterns
 pub mod Runs
 pub mod Made
+pub mod Audited
+pub mod Inputs

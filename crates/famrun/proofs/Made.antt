@@ -1,6 +1,7 @@
 -- Every ending of `make` and of `trial` is one that their contract allows.
 use Rattle.std.proofs.Common.{◌≡◌, ℕ, ◌<◌, ◌≤◌, Bool, true, false, List, [], ◌∷◌, refl, sym, ap, ◌∙◌, arith, inl, inr, ◌⊎◌, length, subst, get_or}
-use Rattle.std.specs.Prelude.{Option, Some, None, IfSome, IfNone, MatchOption, codes, ◌≢◌, ◌^◌, nat_lt, ◌||◌, not, slice_index_or}
+use Rattle.std.specs.Global.{Global}
+use Rattle.std.specs.Prelude.{Result, Ok, Err, IfOk, Vec, Option, Some, None, IfSome, IfNone, MatchOption, codes, ◌≢◌, ◌^◌, nat_lt, ◌||◌, not, slice_index_or}
 use Rattle.std.specs.Fmt.{decimal}
 use Rattle.std.proofs.lemmas.Fmt.{decimal_injective}
 use Rattle.fam_base.specs.Causes.{Rose}
@@ -9,7 +10,27 @@ use Rattle.famrun.specs.declared.ending.Ending.{Ending}
 use Rattle.famrun.specs.declared.ending.Ending.TheVariants as ending
 use Rattle.famrun.specs.declared.wanted.Wanted.{Wanted}
 use Rattle.famrun.specs.Ending.{Tells, status_of}
-use Rattle.famrun.specs.Making.{HasMade, IsMade, MadeOutcome, MakeEnds, TrialEnds, most_programs, most_calls, wanted_in}
+use Rattle.std.proofs.lemmas.List.{length-map}
+use Rattle.std.proofs.lemmas.List.FromFn.{length-range_with_len}
+use Rattle.std.specs.Cmp.Lexicographic.{pointwise, same_text, other_text}
+use Rattle.std.specs.Prelude.{nat_eq}
+use Rattle.fam_base.specs.declared.error.NoMemory.{NoMemory}
+use Rattle.fam_core.specs.declared.simulation.Played.{Played}
+use Rattle.fam_core.specs.Playing.{IsPlayedOut}
+use Rattle.fam_model.specs.declared.event.Event.{Event}
+use Rattle.fam_model.specs.declared.report.ReplyLine.{ReplyLine}
+use Rattle.fam_model.specs.declared.rows.Rows.{Rows}
+use Rattle.fam_model.specs.declared.script.Script.{Script}
+use Rattle.fam_model.specs.declared.state.State.{State}
+use Rattle.fam_model.specs.Grammar.{IsLawfulScript}
+use Rattle.fam_model.specs.Lists.{numbers_below}
+use Rattle.fam_model.specs.ReportText.{reply_lines}
+use Rattle.fam_model.specs.Rows.{common_rows}
+use Rattle.fam_schedule.specs.Schedule.{IsScheduled}
+use Rattle.fam_trial.specs.Generator.{made_program, made_script, words_of_program}
+use Rattle.fam_trial.specs.Trial.{trial_line}
+use Rattle.famrun.proofs.Runs.{played}
+use Rattle.famrun.specs.Making.{HasMade, IsMade, IsTrial, MadeOutcome, MakeEnds, TrialEnds, most_programs, most_calls, wanted_in}
 
 -- words
 
@@ -49,6 +70,11 @@ same_wanted name words a b h g =
     let programs : a.programs ≡ b.programs = decimal_injective a.programs b.programs (low a.programs most_programs h.programs (omega arith)) (low b.programs most_programs g.programs (omega arith)) same.1 in
     let calls : a.calls ≡ b.calls = decimal_injective a.calls b.calls (low a.calls most_calls h.calls (omega arith)) (low b.calls most_calls g.calls (omega arith)) same.2 in
     λ i. record { seed = seeds i; programs = programs i; calls = calls i }
+
+-- the first word is another one
+pub not_named : (name : List ℕ) (words : List (List ℕ)) (first text s p c : List ℕ) → words ≡ first ∷ s ∷ p ∷ c ∷ [] → text ≡ first → false ≡ pointwise nat_eq text name → ¬ IsMade name words
+not_named name words first text s p c four same is made =
+    other_text text name is (same ∙ ap (λ ws. get_or ws 0 name) (sym four ∙ made.1.words_are))
 
 -- what was found of three numbers
 pub made_told : (name : List ℕ) (words : List (List ℕ)) (s p c : List ℕ) (seed programs calls : Option ℕ) (found : Option Wanted) → words ≡ name ∷ s ∷ p ∷ c ∷ [] →
@@ -100,6 +126,7 @@ make_one wanted before after ending.WriteFault ends = inr (inl (refl, ends.1))
 make_one wanted before after ending.NoMemory ends = inr (inr refl)
 make_one wanted before after ending.BadWords ends = absurd ends
 make_one wanted before after (ending.BadLine n) ends = absurd ends
+make_one wanted before after (ending.Illegal line rule) ends = absurd ends
 make_one wanted before after ending.ReadFault ends = absurd ends
 make_one wanted before after ending.TooLong ends = absurd ends
 
@@ -109,6 +136,7 @@ trial_one wanted before after ending.WriteFault (line, trial, front, rose) = inr
 trial_one wanted before after ending.NoMemory ends = inr (inr refl)
 trial_one wanted before after ending.BadWords ends = absurd ends
 trial_one wanted before after (ending.BadLine n) ends = absurd ends
+trial_one wanted before after (ending.Illegal line rule) ends = absurd ends
 trial_one wanted before after ending.ReadFault ends = absurd ends
 trial_one wanted before after ending.TooLong ends = absurd ends
 
@@ -143,3 +171,38 @@ made_out name Ends words wanted before after status e made is ends one =
     calm_one calm (inl zero) = inl zero
     calm_one calm (inr (inl (five, rose))) = absurd (calm rose)
     calm_one calm (inr (inr nine)) = inr nine
+
+-- the line of a run
+
+if_ok : {A E : Type 0} {P Q : A → Type 0} (r : Result A E) → ((x : A) → P x → Q x) → IfOk r P → IfOk r Q
+if_ok (Ok x) h p = h x p
+if_ok (Err e) h p = p
+
+program_count_is : (wanted : Wanted) → length (made_script wanted.seed wanted.programs wanted.calls).programs ≡ wanted.programs
+program_count_is wanted =
+    length-map (numbers_below wanted.programs) (λ pe. made_program pe (words_of_program wanted.seed wanted.calls pe)) ∙ length-range_with_len 0 wanted.programs
+
+trial_of : (wanted : Wanted) (rows : Rows) (run : Played) (line : List ℕ) → rows ≡ common_rows → IsLawfulScript (made_script wanted.seed wanted.programs wanted.calls) →
+    IsPlayedOut rows (made_script wanted.seed wanted.programs wanted.calls) wanted.seed run → run.whole ≡ true →
+    (run.replies.items ≡ reply_lines wanted.programs run.service.history → line ≡ trial_line wanted.seed wanted.programs wanted.calls run.service.history run.service.state) → IsTrial wanted line
+trial_of wanted rows run line fresh lawful out whole told =
+    let script = made_script wanted.seed wanted.programs wanted.calls in
+    let here : IsPlayedOut common_rows script wanted.seed run = subst (λ r. IsPlayedOut r script wanted.seed run) fresh out in
+    record {
+      history = run.service.history;
+      state = run.service.state;
+      played = played wanted.seed script run.service.history true lawful (subst (IsScheduled common_rows script wanted.seed run.service.history) whole here.scheduled);
+      reached = here.state whole;
+      is = told (here.replies whole ∙ ap (λ n. reply_lines n run.service.history) (program_count_is wanted));
+    }
+
+pub trial_told : (wanted : Wanted) (rows : Rows) (script : Script) (run : Played) (history : List Event) (replies : List ReplyLine) (state : State) (line : Result (Vec ℕ Global) NoMemory) →
+    rows ≡ common_rows → script ≡ made_script wanted.seed wanted.programs wanted.calls → IsLawfulScript script → IsPlayedOut rows script wanted.seed run → run.whole ≡ true →
+    history ≡ run.service.history → replies ≡ run.replies.items → state ≡ run.service.state →
+    IfOk line (λ text. replies ≡ reply_lines wanted.programs history → text.items ≡ trial_line wanted.seed wanted.programs wanted.calls history state) →
+    IfOk line (λ text. IsTrial wanted text.items)
+trial_told wanted rows script run history replies state line fresh same lawful out whole h r s told =
+    if_ok line
+    (λ text of. trial_of wanted rows run text.items fresh (subst IsLawfulScript same lawful) (subst (λ t. IsPlayedOut rows t wanted.seed run) same out) whole
+    (λ lines. of (r ∙ lines ∙ ap (reply_lines wanted.programs) (sym h)) ∙ ap (λ x. trial_line wanted.seed wanted.programs wanted.calls x state) h
+    ∙ ap (trial_line wanted.seed wanted.programs wanted.calls run.service.history) s)) told

@@ -28,17 +28,17 @@ refused words source before after status history other two nothing told =
     }
 
 -- what was consumed is a front of what was left
-consumed : (left bytes : List ℕ) (rest : Option (List ℕ)) → Consumes (Some left) rest bytes → length bytes ≤ length left
+pub consumed : (left bytes : List ℕ) (rest : Option (List ℕ)) → Consumes (Some left) rest bytes → length bytes ≤ length left
 consumed left bytes None h = absurd h
 consumed left bytes (Some ys) h = omega (arith, length-append bytes ys, ap length h)
 
 -- and all of it at the end
-all_read : (left bytes : List ℕ) (rest : Option (List ℕ)) → Consumes (Some left) rest bytes → IsAtEnd rest → left ≡ bytes
+pub all_read : (left bytes : List ℕ) (rest : Option (List ℕ)) → Consumes (Some left) rest bytes → IsAtEnd rest → left ≡ bytes
 all_read left bytes None h end = absurd h
 all_read left bytes (Some ys) h end = h ∙ ap (λ xs. bytes ++ xs) end ∙ append-nil bytes
 
 -- what holds of the value, if there is one
-if_some : {A : Type 0} → (o : Option A) (P : A → Type 0) → ((x : A) → o ≡ Some x → P x) → IfSome o P
+pub if_some : {A : Type 0} → (o : Option A) (P : A → Type 0) → ((x : A) → o ≡ Some x → P x) → IfSome o P
 if_some None P h = tt
 if_some (Some x) P h = h x refl
 
@@ -47,6 +47,7 @@ not_two : (seed : ℕ) (from to : SourceState) (before after : SinkState) (histo
 not_two seed from to before after history ending.Told ends two = let t = two in omega (arith, t)
 not_two seed from to before after history ending.BadWords ends two = ends
 not_two seed from to before after history (ending.BadLine n) ends two = let t = two in omega (arith, t)
+not_two seed from to before after history (ending.Illegal line rule) ends two = ends
 not_two seed from to before after history ending.ReadFault ends two = let t = two in omega (arith, t)
 not_two seed from to before after history ending.WriteFault ends two = let t = two in omega (arith, t)
 not_two seed from to before after history ending.NoMemory ends two = let t = two in omega (arith, t)
@@ -76,6 +77,7 @@ module _ (seed : ℕ) (from to : SourceState) (before after : SinkState) (histor
   complete ending.Told ends calm short script is = inl refl
   complete ending.BadWords ends calm short script is = absurd ends
   complete (ending.BadLine n) (reads, rest, line) calm short script is = absurd ((bad_line_is n reads).0 script is)
+  complete (ending.Illegal line rule) ends calm short script is = absurd ends
   complete ending.ReadFault (rose, rest, line) calm short script is = absurd (calm.0 rose)
   complete ending.WriteFault (played, runs, front, rose) calm short script is = absurd (calm.1 rose)
   complete ending.NoMemory ends calm short script is = inr refl
@@ -86,6 +88,7 @@ module _ (seed : ℕ) (from to : SourceState) (before after : SinkState) (histor
   no_script ending.Told (script, runs, rest) calm short other = absurd (other script (script_is script runs.reads).0)
   no_script ending.BadWords ends calm short other = absurd ends
   no_script (ending.BadLine n) ends calm short other = inl refl
+  no_script (ending.Illegal line rule) ends calm short other = absurd ends
   no_script ending.ReadFault (rose, rest, line) calm short other = absurd (calm.0 rose)
   no_script ending.WriteFault (played, runs, front, rose) calm short other = absurd (calm.1 rose)
   no_script ending.NoMemory ends calm short other = inr refl
@@ -96,6 +99,7 @@ module _ (seed : ℕ) (from to : SourceState) (before after : SinkState) (histor
   too_long ending.Told (script, runs, rest) calm long = let short = (script_is script runs.reads).1 in absurd (omega (arith, short, long))
   too_long ending.BadWords ends calm long = absurd ends
   too_long (ending.BadLine n) (reads, rest, line) calm long = let short = (bad_line_is n reads).1 in absurd (omega (arith, short, long))
+  too_long (ending.Illegal line rule) ends calm long = absurd ends
   too_long ending.ReadFault (rose, rest, line) calm long = absurd (calm.0 rose)
   too_long ending.WriteFault (played, runs, front, rose) calm long = absurd (calm.1 rose)
   too_long ending.NoMemory ends calm long = inr refl

@@ -4,6 +4,7 @@ use Rattle.std.specs.Prelude.{Option, Some, None, MatchOption, IfSome, IfNone, I
 use Rattle.std.proofs.lemmas.Bool.{false≢true}
 use Rattle.std.specs.Fmt.{decimal}
 use Rattle.std.specs.Cmp.Lexicographic.{pointwise, same_text, other_text}
+use Rattle.famrun.specs.Commands.{BeginsWith}
 use Rattle.famrun.specs.Ending.{IsSim, HasSeed}
 
 -- one item
@@ -47,3 +48,15 @@ pub seed_told : (words : List (List ℕ)) (name seed name_text seed_text : List 
     MatchOption found (¬ IsSim words) (HasSeed words)
 seed_told words name seed name_text seed_text (Some n) two name_is is_name seed_is some none = has_seed words name seed name_text seed_text n two name_is is_name seed_is some.0 some.1
 seed_told words name seed name_text seed_text None two name_is is_name seed_is some none = no_seed words name seed seed_text two seed_is none
+
+-- the first of some items
+pub first_item : {A : Type 0} → (xs : List A) (x : A) → 1 ≤ length xs → x ≡ slice_index_or xs 0 x → (rest : List A) × (xs ≡ x ∷ rest)
+first_item [] x least is = absurd (omega arith)
+first_item (y ∷ rest) x least is = (rest, ap (λ z. z ∷ rest) (sym is))
+
+-- the first word was compared
+pub told_first : (words : List (List ℕ)) (first word text : List ℕ) (rest : List (List ℕ)) (r : Bool) → words ≡ first ∷ rest → text ≡ first → r ≡ pointwise nat_eq text word →
+    IsTrue r ↔ BeginsWith word words
+told_first words first word text rest true e same is = (λ t. (rest, e ∙ ap (λ w. w ∷ rest) (sym same ∙ same_text text word is)), λ b. refl)
+told_first words first word text rest false e same is =
+    (λ t. absurd (false≢true t), λ b. absurd (other_text text word is (same ∙ ap (λ ws. get_or ws 0 word) (sym e ∙ b.1))))

@@ -40,6 +40,7 @@ told_so seed script history whole before after ending.WriteFault p (is, front, r
 told_so seed script history whole before after ending.NoMemory p told = (so_far seed script history whole p, told)
 told_so seed script history whole before after ending.BadWords p told = told
 told_so seed script history whole before after (ending.BadLine n) p told = told
+told_so seed script history whole before after (ending.Illegal line rule) p told = told
 told_so seed script history whole before after ending.ReadFault p told = told
 told_so seed script history whole before after ending.TooLong p told = told
 

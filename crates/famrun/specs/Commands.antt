@@ -4,6 +4,7 @@ use Rattle.fam_io.specs.State.{SourceState, SinkState}
 use Rattle.fam_model.specs.declared.event.Event.{Event}
 use Rattle.famrun.specs.declared.ending.Ending.{Ending}
 use Rattle.famrun.specs.declared.wanted.Wanted.{Wanted}
+use Rattle.famrun.specs.Auditing.{AuditOutcome}
 use Rattle.famrun.specs.Making.{MadeOutcome}
 
 -- this is the first of the words
@@ -15,3 +16,8 @@ pub record MakesScript (name : List ℕ) (Ends : Wanted → SinkState → SinkSt
   pub unread : to ≡ from
   pub nothing : history ≡ []
   pub made : MadeOutcome name Ends words before after status
+
+-- The command `audit`: there is no history.
+pub record Audits (words : List (List ℕ)) (from to : SourceState) (before after : SinkState) (status : ℕ) (history : List Event) : Type 0 where
+  pub nothing : history ≡ []
+  pub audit : AuditOutcome words from to before after status

@@ -15,7 +15,7 @@ use Rattle.fam_schedule.specs.Schedule.{IsScheduled}
 use Rattle.fam_script.specs.BadLine.{IsBadLine}
 use Rattle.fam_base.specs.declared.error.NoMemory.{NoMemory as NoMemoryError}
 use Rattle.famrun.specs.declared.ending.Ending.{Ending}
-use Rattle.famrun.specs.declared.ending.Ending.TheVariants.{Told, BadWords, BadLine, ReadFault, WriteFault, NoMemory, TooLong}
+use Rattle.famrun.specs.declared.ending.Ending.TheVariants.{Told, BadWords, BadLine, Illegal, ReadFault, WriteFault, NoMemory, TooLong}
 
 -- the status of each ending
 abbrev pub status_of : Ending → ℕ
@@ -24,6 +24,7 @@ status_of BadWords = 2
 status_of (BadLine n) = 3
 status_of ReadFault = 4
 status_of WriteFault = 5
+status_of (Illegal line rule) = 8
 status_of NoMemory = 9
 status_of TooLong = 10
 
@@ -43,6 +44,12 @@ IsSim words = (seed : ℕ) × HasSeed words seed
 -- the most bytes that an input may have
 abbrev pub input_limit : ℕ
 input_limit = 16_777_216
+
+-- the source was read to its end, and this is all that was left in it
+pub record ReadsInput (from to : SourceState) (bytes : List ℕ) : Type 0 where
+  pub read : Moves from to bytes
+  pub end : IsAtEnd to.left
+  pub within : length bytes ≤ input_limit
 
 -- the source was read to its end, and all that was left in it is the text of this script
 pub record ReadsScript (from to : SourceState) (script : Script) : Type 0 where
@@ -103,6 +110,7 @@ SimEnds seed from to before after history TooLong =
 SimEnds seed from to before after history NoMemory =
     IsSoFar seed from to history × Tells before after (codes "no memory\n")
 SimEnds seed from to before after history BadWords = ⊥
+SimEnds seed from to before after history (Illegal line rule) = ⊥
 
 -- the outcome
 
@@ -138,6 +146,19 @@ pub record TellsText (from to : SourceState) (before after : SinkState) (status 
   pub status_is : (status ≡ 0) ⊎ ((status ≡ 5) × Rose before.faults after.faults)
 
 -- parts of a simulation, for the contracts of private functions
+
+-- why bytes gave no script
+abbrev pub NotScript : List ℕ → Ending → Type 0
+NotScript bytes (BadLine n) = IsBadLine bytes n
+NotScript bytes NoMemory = Unit {0}
+NotScript bytes _ = ⊥
+
+-- why an input was not read
+abbrev pub NotRead : SourceState → SourceState → Ending → Type 0
+NotRead from to ReadFault = Rose from.faults to.faults
+NotRead from to TooLong = MovesExactly from to (input_limit + 1)
+NotRead from to NoMemory = Unit {0}
+NotRead from to _ = ⊥
 
 -- why no script was read
 abbrev pub Unread : SourceState → SourceState → Ending → Type 0

@@ -1,3 +1,4 @@
 pub mod Ending
 pub mod Making
+pub mod Auditing
 pub mod Commands

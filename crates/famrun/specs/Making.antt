@@ -77,6 +77,10 @@ pub record MadeOutcome (name : List ℕ) (Ends : Wanted → SinkState → SinkSt
 
 -- for the contracts of private functions
 
+-- no more programs and calls than a script that is made may have
+abbrev pub IsInRange : Wanted → Type 0
+IsInRange wanted = (wanted.programs ≤ most_programs) × (wanted.calls ≤ most_calls)
+
 -- what is asked for by these numbers, where they are in range
 abbrev pub wanted_in : Option ℕ → Option ℕ → Option ℕ → Option Wanted
 wanted_in seed programs calls = do

@@ -2,10 +2,11 @@
 
 ghost use Rattle.std.specs.Prelude.{◌≡◌, ◌↔◌, ◌∷◌, [], ◌≢◌, map, string_bytes, codes, IsTrue};
 ghost use Rattle.fam_io.specs.State.{no_source};
-ghost use Rattle.famrun.specs.Commands.{BeginsWith, MakesScript};
+ghost use Rattle.famrun.specs.Commands.{Audits, BeginsWith, MakesScript};
 ghost use Rattle.famrun.specs.Ending.{SimOutcome, TellsText};
 ghost use Rattle.famrun.specs.Making.{MakeEnds, TrialEnds};
 
+use crate::audit::audit_main;
 use crate::ending::Ending;
 use crate::make::make_main;
 use crate::sim::{Outcome, sim_main};
@@ -18,21 +19,23 @@ pub const HELP: &str = "famrun: a shared memory service, played and proved
 
 usage:
   famrun sim SEED                read a script, play it, and write the report of its run
+  famrun audit                   read a script and its report, and tell whether the report is legal
   famrun make SEED PES CALLS     write the script of a seed: PES programs, CALLS calls each
   famrun trial SEED PES CALLS    play that script, and tell how it went in a line
   famrun --help                  this text
   famrun --version               the version
 
-SEED is a number below 2^64, PES 1 to 64, CALLS 0 to 4000, in decimal digits. The script of sim comes on standard input.
+SEED is a number below 2^64, PES 1 to 64, CALLS 0 to 4000, in decimal digits.
+The script of sim comes on standard input, and for audit the script with its report behind it.
 ";
 
 /// What `--version` tells.
 pub const VERSION: &str = "famrun 0.1.0
 ";
 
-/// The program's commands, by their words: `make` and `trial` go by `make_main` and `trial_main`, and what else there is by
-/// `sim_main`. `--help` and `--version` write a text and read nothing; their status is 0, or 5 where the sink failed and a
-/// prefix of the text is written.
+/// The program's commands, by their words: `audit`, `make` and `trial` go by `audit_main`, `make_main` and `trial_main`, and
+/// what else there is by `sim_main`. `--help` and `--version` write a text and read nothing; their status is 0, or 5 where the
+/// sink failed and a prefix of the text is written.
 pub fn fam_main<S: Source, K: Sink>(
     alloc: Global,
     words: &[String],
@@ -45,6 +48,9 @@ pub fn fam_main<S: Source, K: Sink>(
     ensures version { map string_bytes words.now ≡ codes "--version" ∷ [] →
         TellsText (S.source input.old) (S.source input.new) (K.sink output.old) (K.sink output.new)
         result.status result.history.items VERSION.now }
+    ensures audit { BeginsWith (codes "audit") (map string_bytes words.now) →
+        Audits (map string_bytes words.now) (S.source input.old) (S.source input.new)
+        (K.sink output.old) (K.sink output.new) result.status result.history.items }
     ensures make { BeginsWith (codes "make") (map string_bytes words.now) →
         MakesScript (codes "make") MakeEnds (map string_bytes words.now) (S.source input.old) (S.source input.new)
         (K.sink output.old) (K.sink output.new) result.status result.history.items }
@@ -52,6 +58,7 @@ pub fn fam_main<S: Source, K: Sink>(
         MakesScript (codes "trial") TrialEnds (map string_bytes words.now) (S.source input.old) (S.source input.new)
         (K.sink output.old) (K.sink output.new) result.status result.history.items }
     ensures sim { map string_bytes words.now ≢ codes "--help" ∷ [] → map string_bytes words.now ≢ codes "--version" ∷ [] →
+        ¬ BeginsWith (codes "audit") (map string_bytes words.now) →
         ¬ BeginsWith (codes "make") (map string_bytes words.now) → ¬ BeginsWith (codes "trial") (map string_bytes words.now) →
         SimOutcome (map string_bytes words.now) (S.source input.old) (S.source input.new)
         (K.sink output.old) (K.sink output.new) result.status result.history.items }
@@ -60,6 +67,8 @@ pub fn fam_main<S: Source, K: Sink>(
         tell_text(alloc, output, HELP)
     } else if is_word(words, "--version") {
         tell_text(alloc, output, VERSION)
+    } else if begins_with(words, "audit") {
+        without_history(alloc, audit_main(alloc, words, input, output))
     } else if begins_with(words, "make") {
         without_history(alloc, make_main(alloc, words, output))
     } else if begins_with(words, "trial") {

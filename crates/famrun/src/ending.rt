@@ -12,6 +12,8 @@ pub enum Ending {
     BadWords,
     /// The input is no script; the line is told.
     BadLine(u64),
+    /// The report is illegal: the line and the rule are told.
+    Illegal(u64, u8),
     /// The source failed.
     ReadFault,
     /// The sink failed; a part of what was asked stands on the output.
@@ -33,6 +35,7 @@ impl Ending {
             Ending::BadLine(_) => 3,
             Ending::ReadFault => 4,
             Ending::WriteFault => 5,
+            Ending::Illegal(..) => 8,
             Ending::NoMemory => 9,
             Ending::TooLong => 10,
         }

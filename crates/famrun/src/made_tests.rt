@@ -41,13 +41,7 @@ fn run(alloc: Global, line: &str, failing_writes: &[u64]) -> Result<Left, Fail> 
     })
 }
 
-fn check(
-    rt: &impl Abort,
-    alloc: Global,
-    line: &str,
-    status: u8,
-    output: &str,
-) -> Result<(), Fail> {
+fn check(rt: &impl Abort, alloc: Global, line: &str, status: u8, output: &str) -> Result<(), Fail> {
     let left = run(alloc, line, &[])?;
     assert_eq!(rt; left.status, status, "{line}");
     assert_eq!(rt; left.output.as_slice(), output.as_bytes(), "{line}");

@@ -4,6 +4,7 @@
 //! to standard output. `famrun make` writes a script that a seed gives, and `famrun trial` plays it.
 #![tactic(auto)]
 
+mod audit;
 #[cfg(test)]
 mod bad_lines;
 mod command;
@@ -11,6 +12,7 @@ mod ending;
 #[cfg(test)]
 mod made_tests;
 mod make;
+mod reading;
 mod sim;
 #[cfg(test)]
 mod tests;

@@ -7,17 +7,15 @@ ghost use Rattle.fam_model.specs.ReportText as texts;
 ghost use Rattle.famrun.specs.Ending.{input_limit, HasSeed, IsSim, IsTold, PlaysScript, ReadsScript, ReportsRun, SimEnds, SimOutcome, Tells, Unread, Writes};
 
 use crate::ending::Ending;
+use crate::reading::{read_input, script_of};
 use fam_base::{NoMemory, Sequence};
 use fam_core::{Simulated, simulate};
-use fam_io::{ReadFault, Sink, Source, read_all, write_all};
+use fam_io::{Sink, Source, write_all};
 use fam_model::{Event, Report, Script};
 use fam_rows::common_rows;
-use fam_script::{ScriptFault, number_in, parse};
+use fam_script::number_in;
 use fam_text::text_of;
 use std::alloc::Global;
-
-/// The most bytes that an input may have.
-const INPUT_LIMIT: usize = 16_777_216;
 
 /// What a command leaves: the status of its process, and the history of its run.
 #[derive(Drop)]
@@ -51,20 +49,12 @@ fn read_script<S: Source>(alloc: Global, input: &mut S) -> Result<Script, Ending
     ensures ending { IfErr result (λ ending. Unread (S.source input.old) (S.source input.new) ending) }
     ensures most { MovesUpTo (S.source input.old) (S.source input.new) (input_limit + 1) }
 {
-    match read_all(alloc, input, INPUT_LIMIT) {
-        Ok(bytes) => match parse(alloc, &bytes) {
-            Ok(script) => Ok(script),
-            Err(ScriptFault::BadLine(n)) => Err(Ending::BadLine(n)),
-            Err(ScriptFault::Memory) => Err(Ending::NoMemory),
-        },
-        Err(ReadFault::Memory) => Err(Ending::NoMemory),
-        Err(ReadFault::Failed) => Err(Ending::ReadFault),
-        Err(ReadFault::TooLong) => Err(Ending::TooLong),
-    }
+    let bytes = read_input(alloc, input)?;
+    script_of(alloc, &bytes)
 }
 
 /// Tells why no script was read. Where there is no memory for the line, that is told.
-fn tell_unread<K: Sink>(alloc: Global, output: &mut K, ending: Ending) -> Ending
+pub fn tell_unread<K: Sink>(alloc: Global, output: &mut K, ending: Ending) -> Ending
     ensures { IsTold ending (K.sink output.old) (K.sink output.new) result }
 {
     match ending {
@@ -93,7 +83,7 @@ fn tell_bad_line<K: Sink>(alloc: Global, output: &mut K, n: u64) -> Ending
     }
 }
 
-fn tell_no_memory<K: Sink>(output: &mut K) -> Ending
+pub fn tell_no_memory<K: Sink>(output: &mut K) -> Ending
     ensures ending { result ≡ Ending.NoMemory }
     ensures told { Tells (K.sink output.old) (K.sink output.new) (codes "no memory\n") }
 {

@@ -1,7 +1,7 @@
 //! The command `trial`: plays the script of a seed, and tells how that went in a line.
 
 ghost use Rattle.std.specs.Prelude.{map, string_bytes, codes, IfOk};
-ghost use Rattle.famrun.specs.Making.{IsTrial, MadeOutcome, TrialEnds};
+ghost use Rattle.famrun.specs.Making.{IsInRange, IsTrial, MadeOutcome, TrialEnds};
 
 use crate::ending::Ending;
 use crate::sim::{tell, write_report};
@@ -15,6 +15,7 @@ use std::alloc::Global;
 
 /// The line of a run of the script that is asked for.
 fn line(alloc: Global, wanted: Wanted) -> Result<Vec<u8>, NoMemory>
+    requires { IsInRange wanted }
     ensures { IfOk result (λ line. IsTrial wanted line.items) }
 {
     let script = made_script(alloc, wanted.seed, wanted.programs, wanted.calls)?;
@@ -36,6 +37,7 @@ fn line(alloc: Global, wanted: Wanted) -> Result<Vec<u8>, NoMemory>
 
 /// Plays the script that is asked for, and writes the line.
 fn try_out<K: Sink>(alloc: Global, wanted: Wanted, output: &mut K) -> Ending
+    requires { IsInRange wanted }
     ensures { TrialEnds wanted (K.sink output.old) (K.sink output.new) result }
 {
     let text = line(alloc, wanted);
