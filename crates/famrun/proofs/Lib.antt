@@ -1,4 +1,3 @@
 pub mod Outcomes
 pub mod Patterns
 pub mod Runs
-pub mod Made

@@ -2,14 +2,10 @@
 
 ghost use Rattle.std.specs.Prelude.{◌≡◌, ◌↔◌, ◌∷◌, [], ◌≢◌, map, string_bytes, codes, IsTrue};
 ghost use Rattle.fam_io.specs.State.{no_source};
-ghost use Rattle.famrun.specs.Commands.{BeginsWith, MakesScript};
 ghost use Rattle.famrun.specs.Ending.{SimOutcome, TellsText};
-ghost use Rattle.famrun.specs.Making.{MakeEnds, TrialEnds};
 
 use crate::ending::Ending;
-use crate::make::make_main;
 use crate::sim::{Outcome, sim_main};
-use crate::trial::trial_main;
 use fam_io::{Sink, Source, write_all};
 use std::alloc::Global;
 
@@ -17,22 +13,19 @@ use std::alloc::Global;
 pub const HELP: &str = "famrun: a shared memory service, played and proved
 
 usage:
-  famrun sim SEED                read a script, play it, and write the report of its run
-  famrun make SEED PES CALLS     write the script of a seed: PES programs, CALLS calls each
-  famrun trial SEED PES CALLS    play that script, and tell how it went in a line
-  famrun --help                  this text
-  famrun --version               the version
+  famrun sim SEED      read a script, play it, and write the report of its run
+  famrun --help        this text
+  famrun --version     the version
 
-SEED is a number below 2^64, PES 1 to 64, CALLS 0 to 4000, in decimal digits. The script of sim comes on standard input.
+SEED is a number below 2^64 in decimal digits. The script comes on standard input.
 ";
 
 /// What `--version` tells.
 pub const VERSION: &str = "famrun 0.1.0
 ";
 
-/// The program's commands, by their words: `make` and `trial` go by `make_main` and `trial_main`, and what else there is by
-/// `sim_main`. `--help` and `--version` write a text and read nothing; their status is 0, or 5 where the sink failed and a
-/// prefix of the text is written.
+/// The program's commands, by their words. `sim` goes by `sim_main`. `--help` and `--version` write a text and read
+/// nothing; their status is 0, or 5 where the sink failed and a prefix of the text is written.
 pub fn fam_main<S: Source, K: Sink>(
     alloc: Global,
     words: &[String],
@@ -45,14 +38,7 @@ pub fn fam_main<S: Source, K: Sink>(
     ensures version { map string_bytes words.now ≡ codes "--version" ∷ [] →
         TellsText (S.source input.old) (S.source input.new) (K.sink output.old) (K.sink output.new)
         result.status result.history.items VERSION.now }
-    ensures make { BeginsWith (codes "make") (map string_bytes words.now) →
-        MakesScript (codes "make") MakeEnds (map string_bytes words.now) (S.source input.old) (S.source input.new)
-        (K.sink output.old) (K.sink output.new) result.status result.history.items }
-    ensures trial { BeginsWith (codes "trial") (map string_bytes words.now) →
-        MakesScript (codes "trial") TrialEnds (map string_bytes words.now) (S.source input.old) (S.source input.new)
-        (K.sink output.old) (K.sink output.new) result.status result.history.items }
     ensures sim { map string_bytes words.now ≢ codes "--help" ∷ [] → map string_bytes words.now ≢ codes "--version" ∷ [] →
-        ¬ BeginsWith (codes "make") (map string_bytes words.now) → ¬ BeginsWith (codes "trial") (map string_bytes words.now) →
         SimOutcome (map string_bytes words.now) (S.source input.old) (S.source input.new)
         (K.sink output.old) (K.sink output.new) result.status result.history.items }
 {
@@ -60,33 +46,8 @@ pub fn fam_main<S: Source, K: Sink>(
         tell_text(alloc, output, HELP)
     } else if is_word(words, "--version") {
         tell_text(alloc, output, VERSION)
-    } else if begins_with(words, "make") {
-        without_history(alloc, make_main(alloc, words, output))
-    } else if begins_with(words, "trial") {
-        without_history(alloc, trial_main(alloc, words, output))
     } else {
         sim_main(alloc, words, input, output)
-    }
-}
-
-/// The outcome of a command that plays nothing of the input.
-fn without_history(alloc: Global, status: u8) -> Outcome
-    ensures status { result.status ≡ status }
-    ensures history { result.history.items ≡ [] }
-{
-    Outcome {
-        status,
-        history: Vec::new(alloc),
-    }
-}
-
-/// Whether this is the first of the words.
-fn begins_with(words: &[String], word: &str) -> bool
-    ensures { IsTrue result ↔ BeginsWith word.now (map string_bytes words.now) }
-{
-    match words {
-        [first, ..] => first.as_str() == word,
-        [] => false,
     }
 }
 

@@ -1,21 +1,14 @@
 //! famrun: a shared memory service for many processing elements.
 //!
 //! `famrun sim SEED` reads a script from standard input, plays it, and writes the report of the run
-//! to standard output. `famrun make` writes a script that a seed gives, and `famrun trial` plays it.
+//! to standard output.
 #![tactic(auto)]
 
-#[cfg(test)]
-mod bad_lines;
 mod command;
 mod ending;
-#[cfg(test)]
-mod made_tests;
-mod make;
 mod sim;
 #[cfg(test)]
 mod tests;
-mod trial;
-mod wanted;
 
 use crate::command::fam_main;
 use crate::ending::Ending;

@@ -101,8 +101,8 @@ fn tell_no_memory<K: Sink>(output: &mut K) -> Ending
     Ending::NoMemory
 }
 
-/// Writes a text that was made, if memory was there for it.
-pub fn write_report<K: Sink>(text: Result<Vec<u8>, NoMemory>, output: &mut K) -> Ending
+/// Writes the text of a report.
+fn write_report<K: Sink>(text: Result<Vec<u8>, NoMemory>, output: &mut K) -> Ending
     ensures { Writes text (K.sink output.old) (K.sink output.new) result }
 {
     match text {
