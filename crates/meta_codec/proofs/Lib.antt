@@ -1,0 +1,4 @@
+pub mod OneSpelling
+mod Regrouped
+pub mod Spelled
+mod Worked
