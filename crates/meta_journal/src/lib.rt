@@ -3,11 +3,14 @@
 
 mod area;
 mod doubt;
+mod header;
 mod journal;
 mod laws;
+mod reading;
 mod record;
 mod reserve;
 mod short_form;
+mod starting;
 
 pub use area::Area;
 pub use doubt::Doubt;
