@@ -1,7 +1,10 @@
 pub mod Adding
+pub mod HeaderFront
 pub mod Images
 pub mod Lists
+pub mod AreaRead
 pub mod Fresh
+pub mod Making
 pub mod Opening
 pub mod Owned
 pub mod Parts

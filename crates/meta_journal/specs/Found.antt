@@ -1,6 +1,7 @@
 -- How a disk is found.
-use Rattle.std.specs.Prelude.{◌≡◌, ◌≢◌, ℕ, ◌≤◌, Bool, true, false, List, length, slice_index}
-use Rattle.meta_journal.specs.Layout.{is_fresh}
+use Rattle.std.specs.Prelude.{◌≡◌, ◌≢◌, ℕ, ◌≤◌, Bool, true, false, List, length, slice_index, Option, Some, None, if◌then◌else◌}
+use Rattle.meta_journal.specs.Layout.{area_in_use, has_header, is_first_version, is_fresh}
+use Rattle.meta_journal.specs.declared.header.Header.{Header}
 use Rattle.meta_journal.specs.declared.starting.Found.{Found}
 use Rattle.meta_journal.specs.declared.starting.Found.TheVariants.{Fresh, Old}
 
@@ -19,3 +20,8 @@ IsReady false bytes = IsBlank bytes
 abbrev pub IsFound : List ℕ → Found → Type 0
 IsFound bytes (Fresh clear) = IsReady clear bytes
 IsFound bytes (Old len) = (is_fresh bytes ≡ false) × (len ≡ length bytes)
+
+-- what the header of a disk says, if it has one
+abbrev pub header_in : List ℕ → Option Header
+header_in bytes =
+    if has_header bytes then Some (record { is_first_version = is_first_version bytes; area = area_in_use bytes }) else None

@@ -1,13 +1,16 @@
 -- What opening a journal does to a disk.
-use Rattle.std.specs.Prelude.{◌≡◌, ◌≢◌, ◌↔◌, ℕ, ◌+◌, ◌<◌, ◌≤◌, false, true, List, [], ◌∷◌, ◌++◌, length, take, slice_index, Option, Some, Result, Ok, Err, if◌then◌else◌}
+use Rattle.std.specs.Prelude.{◌≡◌, ◌≢◌, ◌↔◌, ℕ, ◌+◌, ◌<◌, ◌≤◌, false, true, List, [], ◌∷◌, ◌++◌, length, take, slice_index, Option, Some, Result, Ok, Err, OnOk, if◌then◌else◌}
 use Rattle.fam_disk.specs.Crash.{DiskState, IsKept, IsSynced, Leaves, LeavesOnly, Passes, written}
 use Rattle.fam_model.specs.declared.change.Change.{Change}
 use Rattle.fam_model.specs.declared.rows.Rows.{Rows}
 use Rattle.fam_model.specs.Journal.{rows_of}
-use Rattle.fam_model.specs.Rows.{IsLawful}
+use Rattle.fam_model.specs.Rows.{common_rows}
 use Rattle.meta_journal.specs.Image.{IsImage}
-use Rattle.meta_journal.specs.Layout.{is_fresh, is_first_version}
-use Rattle.meta_journal.specs.Reading.{Contents, journal, HasRows}
+use Rattle.meta_journal.specs.Layout.{area_bytes, is_fresh, is_first_version}
+use Rattle.meta_journal.specs.Opening.{read_from}
+use Rattle.meta_journal.specs.Reading.{Contents, area_contents, journal, on_disk, HasRows}
+use Rattle.meta_journal.specs.declared.header.Header.{Header}
+use Rattle.meta_journal.specs.declared.reading.Records.{Records}
 use Rattle.meta_journal.specs.declared.area.Area.{Area}
 use Rattle.meta_journal.specs.declared.doubt.Doubt.TheVariants.{Nothing}
 use Rattle.meta_journal.specs.declared.starting.Started.{Started}
@@ -68,3 +71,26 @@ Answers limit bytes new (Err fault) = IsRefused limit bytes fault
 pub record OpensAs (limit : ℕ) (bytes : List ℕ) (old new : DiskState) (result : Result Started OpenFault) : Type 0 where
   pub opens : Opens (HasRowsOf limit bytes) old new
   pub answers : Answers limit bytes new result
+
+-- a fresh disk was made a journal of no changes, or not
+pub record Makes {T E : Type 0} (old new : DiskState) (result : Result T E) : Type 0 where
+  pub opens : (limit : ℕ) → 17 ≤ limit → Opens (HasRows limit common_rows) old new
+  pub later : List ℕ
+  pub syncs : new.syncs ≡ old.syncs ++ later
+  pub content : OnOk result (new.content ≡ Some empty_journal)
+  pub synced : OnOk result (IsSynced new)
+
+-- these are bytes
+abbrev pub AreBytes : List ℕ → Type 0
+AreBytes bytes = (i : ℕ) → slice_index bytes i < 256
+
+-- what the records of the area that a header names lead to
+abbrev pub ReadsArea : ℕ → Header → List ℕ → Result Started OpenFault → Type 0
+ReadsArea limit header bytes (Ok started) =
+    (started.area ≡ header.area)
+    × AreBytes (area_bytes limit header.area bytes)
+    × (read_from header.is_first_version common_rows 16 (area_bytes limit header.area bytes) ≡ Ok (record { rows = started.rows; place = started.used }))
+ReadsArea limit header bytes (Err Memory) = Unit {0}
+ReadsArea limit header bytes (Err DiskFault) = Unit {0}
+ReadsArea limit header bytes (Err (Damaged place)) =
+    on_disk limit header.area (area_contents header.is_first_version (area_bytes limit header.area bytes)) ≡ Err place

@@ -1,12 +1,13 @@
 //! The records of an area are read.
 
-ghost use Rattle.std.specs.Prelude.{◌≡◌, ◌+◌, ◌<◌, ◌≤◌, ◌^◌, length, IfOk, IfErr, IfSome, IfNone, Ok, Err};
+ghost use Rattle.std.specs.Prelude.{◌≡◌, ℕ, ◌+◌, ◌<◌, ◌≤◌, ◌^◌, length, IfOk, IfErr, IfSome, IfNone, Ok, Err};
 ghost use Rattle.std.specs.Option.{option_map};
 ghost use Rattle.fam_model.specs.Rows.{IsLawful, common_rows as the_common_rows};
+ghost use Rattle.meta_journal.specs.Opened.{AreBytes};
 ghost use Rattle.meta_journal.specs.Opening.{Fails, Gives, read_from};
 ghost use Rattle.meta_journal.specs.Reading.{body_at as body_in, change_at as change_in};
 ghost use Rattle.meta_journal.specs.Versions.{may_hold as may_be_held, fits_first_version as fits_version};
-ghost use Rattle.meta_journal.specs.declared.reading.Unread.TheVariants.{Memory};
+ghost use Rattle.meta_journal.specs.declared.reading.Unread.TheVariants.{Damaged, Memory};
 
 use fam_base::NoMemory;
 use fam_model::{Change, Rows};
@@ -40,6 +41,18 @@ impl From<NoMemory> for Unread {
 
 /// The rows that the records of an area make, up to the first closed gate.
 pub(crate) fn read_records(alloc: Global, is_first: bool, bytes: &[u8]) -> Result<Records, Unread>
+    requires { length bytes.now ≤ 2 ^ 24 }
+    ensures read { Gives result (read_from is_first the_common_rows 16 bytes.now) }
+    ensures lawful { IfOk result (λ records. IsLawful records.rows) }
+    ensures bytes { AreBytes bytes.now }
+    ensures inside { 0 < length bytes.now → IfOk result (λ records. (16 ≤ records.place) × (records.place < 16 + length bytes.now)) }
+    ensures damaged { IfErr result (λ unread. (place : ℕ) → unread ≡ Damaged place → (16 ≤ place) × (place < 16 + length bytes.now)) }
+{
+    take_all(alloc, is_first, bytes)
+}
+
+/// Takes one record after another.
+fn take_all(alloc: Global, is_first: bool, bytes: &[u8]) -> Result<Records, Unread>
     requires { length bytes.now ≤ 2 ^ 24 }
     ensures read { Gives result (read_from is_first the_common_rows 16 bytes.now) }
     ensures lawful { IfOk result (λ records. IsLawful records.rows) }

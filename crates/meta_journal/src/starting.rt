@@ -1,14 +1,21 @@
 //! What a disk has to have done to it before its journal is open.
 
-ghost use Rattle.std.specs.Prelude.{◌≡◌, ◌+◌, ◌≤◌, ◌^◌, length, take, drop, IfOk, IfSome};
-ghost use Rattle.fam_base.specs.Causes.{HasCause};
-ghost use Rattle.meta_journal.specs.Found.{IsFound};
-ghost use Rattle.meta_journal.specs.Opened.{Looks};
+ghost use Rattle.std.specs.Prelude.{◌≡◌, ◌≢◌, ◌+◌, ◌<◌, ◌≤◌, ◌^◌, ℕ, length, IfOk, IfErr, IfSome, IsSome};
+ghost use Rattle.std.specs.Option.{ForSome};
+ghost use Rattle.fam_base.specs.Causes.{HasCause, Rose};
+ghost use Rattle.meta_journal.specs.Found.{IsBlank, IsFound, IsReady, header_in};
+ghost use Rattle.meta_journal.specs.Layout.{area_start, part};
+ghost use Rattle.meta_journal.specs.Opened.{Looks, Makes, ReadsArea};
 
-use crate::area::Area;
+ghost use Rattle.meta_journal.specs.declared.starting.OpenFault.TheVariants.{Damaged, DiskFault};
+
+use crate::area::{Area, area_start as start_of_area, disk_place as place_on_disk};
+use crate::header::{Header, header_of};
+use crate::reading::{Records, Unread, read_records};
 use fam_base::Failed;
-use fam_disk::Disk;
+use fam_disk::{Disk, write_synced};
 use fam_model::Rows;
+use std::alloc::Global;
 
 /// Why a journal was not opened.
 #[derive(Clone, Copy, Debug, PartialEq, Eq)]
@@ -54,5 +61,106 @@ fn look<D: Disk>(disk: &mut D) -> Result<Found, Failed>
         Ok(Found::Fresh { clear: has_letter })
     } else {
         Ok(Found::Old { len })
+    }
+}
+
+/// A journal of no changes behind its first byte: the rest of the header, and a closed gate.
+const EMPTY_BEHIND: [u8; 16] = [b'A', b'M', b'J', 2, 0, 0, 0, 0, 0, 0, 0, 0, 0, 0, 0, 0];
+
+/// Makes a fresh disk a journal of no changes. It is none until the last byte is written.
+fn make_journal<D: Disk>(disk: &mut D, clear: bool) -> Result<(), Failed>
+    requires { IfSome (D.state disk.old).content (IsReady clear) }
+    ensures makes { IsSome (D.state disk.old).content → Makes (D.state disk.old) (D.state disk.new) result }
+    ensures cause { HasCause (D.state disk.old).faults (D.state disk.new).faults result }
+{
+    if clear {
+        clear_and_fill(disk)
+    } else {
+        fill(disk)
+    }
+}
+
+/// Clears the first byte before all else, so that no letter of a journal stands there.
+fn clear_and_fill<D: Disk>(disk: &mut D) -> Result<(), Failed>
+    requires { IfSome (D.state disk.old).content (λ bytes. length bytes ≤ 16) }
+    ensures makes { IsSome (D.state disk.old).content → Makes (D.state disk.old) (D.state disk.new) result }
+    ensures cause { HasCause (D.state disk.old).faults (D.state disk.new).faults result }
+{
+    write_synced(disk, 0, &[0])?;
+    fill(disk)?;
+    Ok(())
+}
+
+/// Writes all behind the first byte, and then the first byte.
+fn fill<D: Disk>(disk: &mut D) -> Result<(), Failed>
+    requires { IfSome (D.state disk.old).content IsBlank }
+    ensures makes { IsSome (D.state disk.old).content → Makes (D.state disk.old) (D.state disk.new) result }
+    ensures cause { HasCause (D.state disk.old).faults (D.state disk.new).faults result }
+{
+    write_synced(disk, 1, &EMPTY_BEHIND)?;
+    write_synced(disk, 0, b"F")?;
+    Ok(())
+}
+
+/// The header of a disk that is not fresh.
+fn read_header<D: Disk>(disk: &mut D) -> Result<Option<Header>, Failed>
+    requires { ForSome (D.state disk.old).content (λ bytes. 16 ≤ length bytes) }
+    ensures looks { Looks (D.state disk.old) (D.state disk.new) }
+    ensures header { IfSome (D.state disk.old).content (λ bytes. IfOk result (λ header. header ≡ header_in bytes)) }
+    ensures cause { HasCause (D.state disk.old).faults (D.state disk.new).faults result }
+{
+    let mut bytes = [0; 16];
+    disk.read(0, &mut bytes)?;
+    Ok(header_of(&bytes))
+}
+
+/// So many bytes of a disk.
+fn read_part<D: Disk>(alloc: Global, disk: &mut D, at: u64, count: u64) -> Result<Vec<u8>, OpenFault>
+    requires within { ForSome (D.state disk.old).content (λ bytes. at + count ≤ length bytes) }
+    requires few { count ≤ 2 ^ 24 }
+    ensures looks { Looks (D.state disk.old) (D.state disk.new) }
+    ensures bytes { IfSome (D.state disk.old).content (λ bytes. IfOk result (λ read. read.items ≡ part at count bytes)) }
+    ensures length { IfOk result (λ read. length read.items ≡ count) }
+    ensures refused { IfErr result (λ fault. (place : ℕ) → fault ≢ Damaged place) }
+    ensures cause { (D.state disk.old).faults ≤ (D.state disk.new).faults }
+    ensures failed { IfErr result (λ fault. fault ≡ DiskFault → Rose (D.state disk.old).faults (D.state disk.new).faults) }
+{
+    let Ok(mut bytes) = vec![in alloc; 0u8; count as usize] else {
+        return Err(OpenFault::Memory);
+    };
+    match disk.read(at, bytes.as_mut_slice()) {
+        Ok(()) => Ok(bytes),
+        Err(Failed) => Err(OpenFault::DiskFault),
+    }
+}
+
+/// What the records of a disk lead to, once a sync was served.
+fn read_area<D: Disk>(
+    alloc: Global,
+    disk: &mut D,
+    limit: u64,
+    header: Header,
+    len: u64,
+) -> Result<Started, OpenFault>
+    requires low { 17 ≤ limit }
+    requires high { limit ≤ 2 ^ 24 }
+    requires inside { area_start limit header.area < len }
+    requires len { ForSome (D.state disk.old).content (λ bytes. len ≡ length bytes) }
+    ensures looks { Looks (D.state disk.old) (D.state disk.new) }
+    ensures found { IfSome (D.state disk.old).content (λ bytes. ReadsArea limit header bytes result) }
+    ensures room { IfOk result (λ started. (16 ≤ started.used) × (started.used < limit)) }
+    ensures cause { (D.state disk.old).faults ≤ (D.state disk.new).faults }
+    ensures failed { IfErr result (λ fault. fault ≡ DiskFault → Rose (D.state disk.old).faults (D.state disk.new).faults) }
+{
+    let start = start_of_area(limit, header.area);
+    let bytes = read_part(alloc, disk, start, (len - start).min(limit - 16))?;
+    match read_records(alloc, header.is_first_version, bytes.as_slice()) {
+        Ok(Records { rows, place }) => Ok(Started {
+            area: header.area,
+            used: place,
+            rows,
+        }),
+        Err(Unread::Memory) => Err(OpenFault::Memory),
+        Err(Unread::Damaged(place)) => Err(OpenFault::Damaged(place_on_disk(limit, header.area, place))),
     }
 }

@@ -1,7 +1,7 @@
 use Rattle.std.proofs.Common.{◌≡◌, ◌≤◌, ◌+◌, ◌^◌, length}
 use Rattle.fam_model.specs.Rows.{IsLawful, common_rows}
 use Rattle.meta_journal.specs.Opening.{read_from}
-use Rattle.meta_journal.proofs.reading.read_records.Given as goal
+use Rattle.meta_journal.proofs.reading.take_all.Given as goal
 
 -- The rest is read over the records so far as all of the bytes are over none.
 abbrev pub invariant-loop : goal.invariant-loop
