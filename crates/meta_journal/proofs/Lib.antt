@@ -14,7 +14,9 @@ pub mod Restoring
 pub mod Results
 pub mod Settling
 pub mod Smallness
+pub mod Started
 pub mod Switching
+pub mod Synced
 pub mod TakenUp
 mod Worked
 pub mod Writing

@@ -21,6 +21,11 @@ abbrev pub IsFound : List ℕ → Found → Type 0
 IsFound bytes (Fresh clear) = IsReady clear bytes
 IsFound bytes (Old len) = (is_fresh bytes ≡ false) × (len ≡ length bytes)
 
+-- a disk that is not fresh is found with at least 17 bytes
+abbrev pub IsLong : Found → Type 0
+IsLong (Fresh clear) = Unit {0}
+IsLong (Old len) = 17 ≤ len
+
 -- what the header of a disk says, if it has one
 abbrev pub header_in : List ℕ → Option Header
 header_in bytes =

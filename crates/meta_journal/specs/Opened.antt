@@ -5,6 +5,7 @@ use Rattle.fam_model.specs.declared.change.Change.{Change}
 use Rattle.fam_model.specs.declared.rows.Rows.{Rows}
 use Rattle.fam_model.specs.Journal.{rows_of}
 use Rattle.fam_model.specs.Rows.{common_rows}
+use Rattle.meta_journal.specs.Found.{header_in}
 use Rattle.meta_journal.specs.Image.{IsImage}
 use Rattle.meta_journal.specs.Layout.{area_bytes, is_fresh, is_first_version}
 use Rattle.meta_journal.specs.Opening.{read_from}
@@ -94,3 +95,16 @@ ReadsArea limit header bytes (Err Memory) = Unit {0}
 ReadsArea limit header bytes (Err DiskFault) = Unit {0}
 ReadsArea limit header bytes (Err (Damaged place)) =
     on_disk limit header.area (area_contents header.is_first_version (area_bytes limit header.area bytes)) ≡ Err place
+
+-- A crash left what the disk read before, and goes on to leave its rows.
+pub record StartsSynced (limit : ℕ) (bytes : List ℕ) (old new : DiskState) (result : Result Started OpenFault) : Type 0 where
+  pub only : LeavesOnly (HasRowsOf limit bytes) old new
+  pub later : List ℕ
+  pub syncs : new.syncs ≡ old.syncs ++ later
+  pub answers : Answers limit bytes new result
+
+-- what is known of a disk that is not fresh, where its header was read
+pub record IsSeen (limit : ℕ) (header : Header) (len : ℕ) (bytes : List ℕ) : Type 0 where
+  pub old : is_fresh bytes ≡ false
+  pub header_is : header_in bytes ≡ Some header
+  pub len_is : len ≡ length bytes

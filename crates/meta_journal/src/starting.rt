@@ -1,11 +1,12 @@
 //! What a disk has to have done to it before its journal is open.
 
-ghost use Rattle.std.specs.Prelude.{◌≡◌, ◌≢◌, ◌+◌, ◌<◌, ◌≤◌, ◌^◌, ℕ, length, IfOk, IfErr, IfSome, IsSome};
+ghost use Rattle.std.specs.Prelude.{◌≡◌, ◌≢◌, ◌+◌, ◌<◌, ◌≤◌, ◌^◌, ℕ, false, length, IfOk, IfErr, IfSome, IsSome};
 ghost use Rattle.std.specs.Option.{ForSome};
+ghost use Rattle.fam_disk.specs.Crash.{IsSynced};
 ghost use Rattle.fam_base.specs.Causes.{HasCause, Rose};
-ghost use Rattle.meta_journal.specs.Found.{IsBlank, IsFound, IsReady, header_in};
-ghost use Rattle.meta_journal.specs.Layout.{area_start, part};
-ghost use Rattle.meta_journal.specs.Opened.{Looks, Makes, ReadsArea};
+ghost use Rattle.meta_journal.specs.Found.{IsBlank, IsFound, IsLong, IsReady, header_in};
+ghost use Rattle.meta_journal.specs.Layout.{area_start, is_fresh, part};
+ghost use Rattle.meta_journal.specs.Opened.{IsSeen, Looks, Makes, OpensAs, ReadsArea, StartsSynced};
 
 ghost use Rattle.meta_journal.specs.declared.starting.OpenFault.TheVariants.{Damaged, DiskFault};
 
@@ -15,6 +16,7 @@ use crate::reading::{Records, Unread, read_records};
 use fam_base::Failed;
 use fam_disk::{Disk, write_synced};
 use fam_model::Rows;
+use fam_rows::common_rows;
 use std::alloc::Global;
 
 /// Why a journal was not opened.
@@ -48,6 +50,7 @@ enum Found {
 fn look<D: Disk>(disk: &mut D) -> Result<Found, Failed>
     ensures looks { Looks (D.state disk.old) (D.state disk.new) }
     ensures found { IfSome (D.state disk.old).content (λ bytes. IfOk result (IsFound bytes)) }
+    ensures long { IfOk result IsLong }
     ensures cause { HasCause (D.state disk.old).faults (D.state disk.new).faults result }
 {
     let len = disk.len()?;
@@ -162,5 +165,116 @@ fn read_area<D: Disk>(
         }),
         Err(Unread::Memory) => Err(OpenFault::Memory),
         Err(Unread::Damaged(place)) => Err(OpenFault::Damaged(place_on_disk(limit, header.area, place))),
+    }
+}
+
+/// Reads the area in use, behind a sync that was served, and writes the second version over the first.
+fn start_synced<D: Disk>(
+    alloc: Global,
+    disk: &mut D,
+    limit: u64,
+    header: Header,
+    len: u64,
+) -> Result<Started, OpenFault>
+    requires low { 17 ≤ limit }
+    requires high { limit ≤ 2 ^ 24 }
+    requires inside { area_start limit header.area < len }
+    requires long { 17 ≤ len }
+    requires synced { IsSynced (D.state disk.old) }
+    requires seen { ForSome (D.state disk.old).content (IsSeen limit header len) }
+    ensures starts { IfSome (D.state disk.old).content (λ bytes. StartsSynced limit bytes (D.state disk.old) (D.state disk.new) result) }
+    ensures room { IfOk result (λ started. (16 ≤ started.used) × (started.used < limit)) }
+    ensures cause { (D.state disk.old).faults ≤ (D.state disk.new).faults }
+    ensures failed { IfErr result (λ fault. fault ≡ DiskFault → Rose (D.state disk.old).faults (D.state disk.new).faults) }
+{
+    let started = read_area(alloc, disk, limit, header, len)?;
+    if !header.is_first_version {
+        return Ok(started);
+    }
+    match write_synced(disk, 4, &[2]) {
+        Ok(()) => Ok(started),
+        Err(Failed) => Err(OpenFault::DiskFault),
+    }
+}
+
+/// Opens the journal behind a header that was read.
+fn start_behind<D: Disk>(
+    alloc: Global,
+    disk: &mut D,
+    limit: u64,
+    header: Header,
+    len: u64,
+) -> Result<Started, OpenFault>
+    requires low { 17 ≤ limit }
+    requires high { limit ≤ 2 ^ 24 }
+    requires long { 17 ≤ len }
+    requires seen { ForSome (D.state disk.old).content (IsSeen limit header len) }
+    ensures opens { IfSome (D.state disk.old).content (λ bytes. OpensAs limit bytes (D.state disk.old) (D.state disk.new) result) }
+    ensures room { IfOk result (λ started. (16 ≤ started.used) × (started.used < limit)) }
+    ensures cause { (D.state disk.old).faults ≤ (D.state disk.new).faults }
+    ensures failed { IfErr result (λ fault. fault ≡ DiskFault → Rose (D.state disk.old).faults (D.state disk.new).faults) }
+{
+    if len <= start_of_area(limit, header.area) {
+        return Err(OpenFault::Damaged(8));
+    }
+    match disk.sync() {
+        Ok(()) => start_synced(alloc, disk, limit, header, len),
+        Err(Failed) => Err(OpenFault::DiskFault),
+    }
+}
+
+/// Opens the journal of a disk that is not fresh.
+fn start_old<D: Disk>(alloc: Global, disk: &mut D, limit: u64, len: u64) -> Result<Started, OpenFault>
+    requires low { 17 ≤ limit }
+    requires high { limit ≤ 2 ^ 24 }
+    requires long { 17 ≤ len }
+    requires old { ForSome (D.state disk.old).content (λ bytes. (is_fresh bytes ≡ false) × (len ≡ length bytes)) }
+    ensures opens { IfSome (D.state disk.old).content (λ bytes. OpensAs limit bytes (D.state disk.old) (D.state disk.new) result) }
+    ensures room { IfOk result (λ started. (16 ≤ started.used) × (started.used < limit)) }
+    ensures cause { (D.state disk.old).faults ≤ (D.state disk.new).faults }
+    ensures failed { IfErr result (λ fault. fault ≡ DiskFault → Rose (D.state disk.old).faults (D.state disk.new).faults) }
+{
+    match read_header(disk) {
+        Ok(Some(header)) => start_behind(alloc, disk, limit, header, len),
+        Ok(None) => Err(OpenFault::Damaged(0)),
+        Err(Failed) => Err(OpenFault::DiskFault),
+    }
+}
+
+/// Opens the journal of a fresh disk.
+fn start_fresh<D: Disk>(alloc: Global, disk: &mut D, limit: u64, clear: bool) -> Result<Started, OpenFault>
+    requires low { 17 ≤ limit }
+    requires ready { IfSome (D.state disk.old).content (IsReady clear) }
+    ensures opens { IfSome (D.state disk.old).content (λ bytes. OpensAs limit bytes (D.state disk.old) (D.state disk.new) result) }
+    ensures room { IfOk result (λ started. (16 ≤ started.used) × (started.used < limit)) }
+    ensures cause { (D.state disk.old).faults ≤ (D.state disk.new).faults }
+    ensures failed { IfErr result (λ fault. fault ≡ DiskFault → Rose (D.state disk.old).faults (D.state disk.new).faults) }
+{
+    let Ok(rows) = common_rows(alloc) else {
+        return Err(OpenFault::Memory);
+    };
+    match make_journal(disk, clear) {
+        Ok(()) => Ok(Started {
+            area: Area::First,
+            used: 16,
+            rows,
+        }),
+        Err(Failed) => Err(OpenFault::DiskFault),
+    }
+}
+
+/// Opens the journal of a disk.
+pub(crate) fn start<D: Disk>(alloc: Global, disk: &mut D, limit: u64) -> Result<Started, OpenFault>
+    requires low { 17 ≤ limit }
+    requires high { limit ≤ 2 ^ 24 }
+    ensures opens { IfSome (D.state disk.old).content (λ bytes. OpensAs limit bytes (D.state disk.old) (D.state disk.new) result) }
+    ensures room { IfOk result (λ started. (16 ≤ started.used) × (started.used < limit)) }
+    ensures cause { (D.state disk.old).faults ≤ (D.state disk.new).faults }
+    ensures failed { IfErr result (λ fault. fault ≡ DiskFault → Rose (D.state disk.old).faults (D.state disk.new).faults) }
+{
+    match look(disk) {
+        Ok(Found::Fresh { clear }) => start_fresh(alloc, disk, limit, clear),
+        Ok(Found::Old { len }) => start_old(alloc, disk, limit, len),
+        Err(Failed) => Err(OpenFault::DiskFault),
     }
 }
