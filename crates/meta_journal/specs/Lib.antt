@@ -3,6 +3,7 @@ pub mod Image
 pub mod Laws
 pub mod Layout
 pub mod Opened
+pub mod OpenedJournal
 pub mod Opening
 pub mod Reading
 pub mod Settling

@@ -11,6 +11,7 @@ use fam_model::Change;
 use std::alloc::Global;
 
 mod adding;
+mod opening;
 mod settling;
 mod switching;
 
