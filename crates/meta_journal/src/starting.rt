@@ -1,6 +1,6 @@
 //! What a disk has to have done to it before its journal is open.
 
-ghost use Rattle.std.specs.Prelude.{◌≡◌, ◌≢◌, ◌+◌, ◌<◌, ◌≤◌, ◌^◌, ℕ, false, length, IfOk, IfErr, IfSome, IsSome};
+ghost use Rattle.std.specs.Prelude.{◌≡◌, ◌≢◌, ◌+◌, ◌<◌, ◌≤◌, ◌^◌, ℕ, false, length, IfOk, IfErr, IfSome, IsSome, is_some};
 ghost use Rattle.std.specs.Option.{ForSome};
 ghost use Rattle.fam_disk.specs.Crash.{IsSynced};
 ghost use Rattle.fam_base.specs.Causes.{HasCause, Rose};
@@ -74,6 +74,7 @@ const EMPTY_BEHIND: [u8; 16] = [b'A', b'M', b'J', 2, 0, 0, 0, 0, 0, 0, 0, 0, 0, 
 fn make_journal<D: Disk>(disk: &mut D, clear: bool) -> Result<(), Failed>
     requires { IfSome (D.state disk.old).content (IsReady clear) }
     ensures makes { IsSome (D.state disk.old).content → Makes (D.state disk.old) (D.state disk.new) result }
+    ensures tells { is_some (D.state disk.new).content ≡ is_some (D.state disk.old).content }
     ensures cause { HasCause (D.state disk.old).faults (D.state disk.new).faults result }
 {
     if clear {
@@ -87,6 +88,7 @@ fn make_journal<D: Disk>(disk: &mut D, clear: bool) -> Result<(), Failed>
 fn clear_and_fill<D: Disk>(disk: &mut D) -> Result<(), Failed>
     requires { IfSome (D.state disk.old).content (λ bytes. length bytes ≤ 16) }
     ensures makes { IsSome (D.state disk.old).content → Makes (D.state disk.old) (D.state disk.new) result }
+    ensures tells { is_some (D.state disk.new).content ≡ is_some (D.state disk.old).content }
     ensures cause { HasCause (D.state disk.old).faults (D.state disk.new).faults result }
 {
     write_synced(disk, 0, &[0])?;
@@ -98,6 +100,7 @@ fn clear_and_fill<D: Disk>(disk: &mut D) -> Result<(), Failed>
 fn fill<D: Disk>(disk: &mut D) -> Result<(), Failed>
     requires { IfSome (D.state disk.old).content IsBlank }
     ensures makes { IsSome (D.state disk.old).content → Makes (D.state disk.old) (D.state disk.new) result }
+    ensures tells { is_some (D.state disk.new).content ≡ is_some (D.state disk.old).content }
     ensures cause { HasCause (D.state disk.old).faults (D.state disk.new).faults result }
 {
     write_synced(disk, 1, &EMPTY_BEHIND)?;
@@ -183,6 +186,7 @@ fn start_synced<D: Disk>(
     requires synced { IsSynced (D.state disk.old) }
     requires seen { ForSome (D.state disk.old).content (IsSeen limit header len) }
     ensures starts { IfSome (D.state disk.old).content (λ bytes. StartsSynced limit bytes (D.state disk.old) (D.state disk.new) result) }
+    ensures tells { is_some (D.state disk.new).content ≡ is_some (D.state disk.old).content }
     ensures room { IfOk result (λ started. (16 ≤ started.used) × (started.used < limit)) }
     ensures cause { (D.state disk.old).faults ≤ (D.state disk.new).faults }
     ensures failed { IfErr result (λ fault. fault ≡ DiskFault → Rose (D.state disk.old).faults (D.state disk.new).faults) }
@@ -210,6 +214,7 @@ fn start_behind<D: Disk>(
     requires long { 17 ≤ len }
     requires seen { ForSome (D.state disk.old).content (IsSeen limit header len) }
     ensures opens { IfSome (D.state disk.old).content (λ bytes. OpensAs limit bytes (D.state disk.old) (D.state disk.new) result) }
+    ensures tells { is_some (D.state disk.new).content ≡ is_some (D.state disk.old).content }
     ensures room { IfOk result (λ started. (16 ≤ started.used) × (started.used < limit)) }
     ensures cause { (D.state disk.old).faults ≤ (D.state disk.new).faults }
     ensures failed { IfErr result (λ fault. fault ≡ DiskFault → Rose (D.state disk.old).faults (D.state disk.new).faults) }
@@ -230,6 +235,7 @@ fn start_old<D: Disk>(alloc: Global, disk: &mut D, limit: u64, len: u64) -> Resu
     requires long { 17 ≤ len }
     requires old { ForSome (D.state disk.old).content (λ bytes. (is_fresh bytes ≡ false) × (len ≡ length bytes)) }
     ensures opens { IfSome (D.state disk.old).content (λ bytes. OpensAs limit bytes (D.state disk.old) (D.state disk.new) result) }
+    ensures tells { is_some (D.state disk.new).content ≡ is_some (D.state disk.old).content }
     ensures room { IfOk result (λ started. (16 ≤ started.used) × (started.used < limit)) }
     ensures cause { (D.state disk.old).faults ≤ (D.state disk.new).faults }
     ensures failed { IfErr result (λ fault. fault ≡ DiskFault → Rose (D.state disk.old).faults (D.state disk.new).faults) }
@@ -246,6 +252,7 @@ fn start_fresh<D: Disk>(alloc: Global, disk: &mut D, limit: u64, clear: bool) ->
     requires low { 17 ≤ limit }
     requires ready { IfSome (D.state disk.old).content (IsReady clear) }
     ensures opens { IfSome (D.state disk.old).content (λ bytes. OpensAs limit bytes (D.state disk.old) (D.state disk.new) result) }
+    ensures tells { is_some (D.state disk.new).content ≡ is_some (D.state disk.old).content }
     ensures room { IfOk result (λ started. (16 ≤ started.used) × (started.used < limit)) }
     ensures cause { (D.state disk.old).faults ≤ (D.state disk.new).faults }
     ensures failed { IfErr result (λ fault. fault ≡ DiskFault → Rose (D.state disk.old).faults (D.state disk.new).faults) }
@@ -268,6 +275,7 @@ pub(crate) fn start<D: Disk>(alloc: Global, disk: &mut D, limit: u64) -> Result<
     requires low { 17 ≤ limit }
     requires high { limit ≤ 2 ^ 24 }
     ensures opens { IfSome (D.state disk.old).content (λ bytes. OpensAs limit bytes (D.state disk.old) (D.state disk.new) result) }
+    ensures tells { is_some (D.state disk.new).content ≡ is_some (D.state disk.old).content }
     ensures room { IfOk result (λ started. (16 ≤ started.used) × (started.used < limit)) }
     ensures cause { (D.state disk.old).faults ≤ (D.state disk.new).faults }
     ensures failed { IfErr result (λ fault. fault ≡ DiskFault → Rose (D.state disk.old).faults (D.state disk.new).faults) }
