@@ -1,8 +1,8 @@
 -- What a crash leaves while a record is added.
-use Rattle.std.proofs.Common.{◌≡◌, ℕ, ◌+◌, ◌-◌, ◌<◌, ◌≤◌, ◌≢◌, inl, inr, Bool, true, false, List, [], ◌∷◌, ◌++◌, length, take, drop, refl, sym, ◌∙◌, ap, subst, arith, rules, append_assoc, length-append, length-take, length-drop}
-use Rattle.std.specs.Prelude.{◌⊎◌, Option, Some, None, is_some, option_map, Result, Ok, Err, IsTrue, IsSome, unwrap_or, slice_index, replicate}
+use Rattle.std.proofs.Common.{◌≡◌, ℕ, ◌+◌, ◌-◌, ◌<◌, ◌≤◌, ◌≢◌, inl, inr, false, List, [], ◌∷◌, ◌++◌, length, take, drop, refl, sym, ◌∙◌, ap, subst, arith, append_assoc, length-append}
+use Rattle.std.specs.Prelude.{◌⊎◌, Option, Some, None, is_some, option_map, IsTrue, IsSome, unwrap_or, slice_index, replicate}
 use Rattle.std.proofs.lemmas.Bool.{cases_eq}
-use Rattle.std.proofs.lemmas.List.{append-nil, take_all}
+use Rattle.std.proofs.lemmas.List.{append-nil}
 use Rattle.fam_disk.specs.Crash.{DiskState, IsTorn, IsSynced, Leaves, LeavesOnly, Passes, written}
 use Rattle.fam_disk.proofs.Moments.{now_after, written_after, started, goes_on}
 use Rattle.fam_disk.specs.Torn.{torn_same, torn_written}
@@ -17,13 +17,13 @@ use Rattle.meta_journal.specs.declared.area.Area.{Area}
 use Rattle.meta_journal.specs.declared.area.Area.TheVariants.{First, Second}
 use Rattle.meta_journal.specs.declared.doubt.Doubt.{Doubt}
 use Rattle.meta_journal.specs.declared.doubt.Doubt.TheVariants.{Nothing, OfChange, OfArea}
-use Rattle.meta_journal.specs.Image.{HasHeader, IsClosed, HasChanges, HasChangesAndDoubt, AreLawful, IsAddable, IsImage, HoldsInDoubt}
+use Rattle.meta_journal.specs.Image.{HasHeader, IsClosed, HasChanges, HasChangesAndDoubt, AreLawful, IsAddable, IsImage}
 use Rattle.meta_journal.specs.Layout.{Holds, magic, area_in_use, area_start, disk_place, records_end, records, record_bytes}
-use Rattle.meta_journal.specs.Reading.{HasRows, records_from, Contents}
+use Rattle.meta_journal.specs.Reading.{HasRows, records_from}
 use Rattle.meta_journal.specs.State.{HasRowsOrAfter, changes_before, changes_in}
 use Rattle.meta_journal.proofs.Images.{image_reads, start_place, count_fits}
 use Rattle.meta_journal.proofs.Parts.{holds_below, holds_above, holds_written, holds_both, holds_inside, holds_front, holds_back, byte_stands, byte_is}
-use Rattle.meta_journal.proofs.Records.{contents, body_is_counted, records_read}
+use Rattle.meta_journal.proofs.Records.{body_is_counted, records_read}
 
 -- Rows and records with one change more
 

@@ -1,17 +1,16 @@
 -- What images read as.
-use Rattle.std.proofs.Common.{◌≡◌, ℕ, ◌+◌, ◌-◌, ◌<◌, ◌≤◌, ◌≢◌, Bool, true, false, not, List, [], ◌∷◌, ◌++◌, length, take, drop, refl, sym, ◌∙◌, ap, subst, arith, rules, length-append, length-take, length-drop, take-append-drop}
-use Rattle.std.specs.Prelude.{Result, Ok, Err, IsTrue, nat_le, nat_lt, ◌==◌, ◌&&◌, ◌||◌, slice_index, replicate, if◌then◌else◌}
-use Rattle.std.specs.Str.{bytes_eq}
-use Rattle.std.proofs.lemmas.List.{take_at, take-take, drop_at, drop_more, get_or-take, get_or-drop}
+use Rattle.std.proofs.Common.{◌≡◌, ℕ, ◌+◌, ◌-◌, ◌<◌, ◌≤◌, ◌≢◌, true, false, List, [], ◌∷◌, ◌++◌, length, take, drop, refl, sym, ◌∙◌, ap, arith, length-append, length-take, length-drop, take-append-drop}
+use Rattle.std.specs.Prelude.{slice_index}
+use Rattle.std.proofs.lemmas.List.{take-take, drop_more, get_or-take, get_or-drop}
 use Rattle.std.proofs.lemmas.Bool.Decides.{nat_tests}
 use Rattle.fam_model.specs.declared.change.Change.{Change}
 use Rattle.fam_model.specs.Rows.{common_rows}
 use Rattle.meta_journal.specs.declared.area.Area.{Area}
 use Rattle.meta_journal.specs.declared.area.Area.TheVariants.{First, Second}
-use Rattle.meta_journal.specs.Image.{HasHeader, IsClosed, HasChanges, AreLawful}
-use Rattle.meta_journal.specs.Layout.{part, Holds, stands_at, magic, has_header, is_fresh, is_first_version, area_in_use, area_start, area_bytes, disk_place, records_end, records, record_bytes}
-use Rattle.meta_journal.specs.Reading.{Contents, journal, area_contents, on_disk, is_missing, records_from}
-use Rattle.meta_journal.proofs.Parts.{holds_front, holds_inside, byte_is}
+use Rattle.meta_journal.specs.Image.{HasHeader, HasChanges, AreLawful}
+use Rattle.meta_journal.specs.Layout.{has_header, is_fresh, is_first_version, area_in_use, area_start, area_bytes, disk_place, records_end, records, record_bytes}
+use Rattle.meta_journal.specs.Reading.{journal, area_contents, on_disk, is_missing, records_from}
+use Rattle.meta_journal.proofs.Parts.{holds_front, byte_is}
 use Rattle.meta_journal.proofs.Records.{contents, records_read}
 
 pub count_fits : (changes : List Change) → length changes ≤ length (records changes)

@@ -1,4 +1,5 @@
 pub mod Adding
+pub mod Appending
 pub mod HeaderFront
 pub mod Images
 pub mod Lists
@@ -10,6 +11,7 @@ pub mod Owned
 pub mod Parts
 pub mod ReadBack
 pub mod Records
+pub mod Reserving
 pub mod Restoring
 pub mod Results
 pub mod Settling
@@ -18,5 +20,5 @@ pub mod Started
 pub mod Switching
 pub mod Synced
 pub mod TakenUp
-mod Worked
+pub mod Worked
 pub mod Writing

@@ -1,7 +1,7 @@
 -- Lists, cut in front of one element.
-use Rattle.std.proofs.Common.{◌≡◌, ℕ, zero, suc, ◌+◌, ◌<◌, ◌≤◌, Bool, true, false, eqb, List, [], ◌∷◌, ◌++◌, length, drop, get_or, Option, Some, None, is_none, inl, inr, refl, sym, ap, ◌∙◌, subst, arith}
+use Rattle.std.proofs.Common.{◌≡◌, ℕ, suc, ◌+◌, ◌<◌, ◌≤◌, Bool, true, false, List, [], ◌∷◌, ◌++◌, length, drop, get_or, Some, is_none, inl, inr, sym, ap, ◌∙◌, subst, arith}
 use mathlib.Core.Bool.{not}
-use Rattle.std.specs.List.{All, AllPairs, filter, find, list_any, list_all, slice_get}
+use Rattle.std.specs.List.{All, AllPairs, filter, find, list_all, slice_get}
 use Rattle.std.proofs.lemmas.Bool.{cases_Bool}
 use Rattle.std.proofs.lemmas.List.{get_or_append_left, length-append}
 use Rattle.std.proofs.lemmas.List.Elements.{All-head, All-tail, All-cons, All-nil}
@@ -33,7 +33,7 @@ pub rises_on : {X : Type 0} (number : X → ℕ) (n : ℕ) (xs : List X) → All
 rises_on number n [] least rise = tt
 rises_on {X} number n (x ∷ xs) least rise =
     let behind : All (λ y. number x + 1 ≤ number y) xs = λ k d in_range.
-        let below : number x < number (get_or xs k d) = rise 0 (suc k) d (omega arith) (omega (arith, in_range)) in omega (arith, below) in
+    let below : number x < number (get_or xs k d) = rise 0 (suc k) d (omega arith) (omega (arith, in_range)) in omega (arith, below) in
     let others : AllPairs (λ a b. number a < number b) xs = λ i j d lt in_range. rise (suc i) (suc j) d (omega (arith, lt)) (omega (arith, in_range)) in
     (All-head (λ y. n ≤ number y) x xs least, rises_on number (number x + 1) xs behind others)
 

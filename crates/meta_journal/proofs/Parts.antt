@@ -1,10 +1,9 @@
 -- What stands at a place of a disk, through writes.
-use Rattle.std.proofs.Common.{◌≡◌, ℕ, ◌+◌, ◌-◌, ◌<◌, ◌≤◌, min, max, List, [], ◌∷◌, ◌++◌, length, take, drop, refl, sym, ◌∙◌, ap, subst, arith, append_assoc, length-append, length-take, length-drop, get_or}
+use Rattle.std.proofs.Common.{◌≡◌, ℕ, ◌+◌, ◌-◌, ◌<◌, ◌≤◌, min, List, [], ◌∷◌, ◌++◌, length, take, drop, refl, sym, ◌∙◌, ap, arith, append_assoc, length-append, length-take, length-drop}
 use Rattle.std.specs.Prelude.{slice_index}
-use Rattle.std.proofs.lemmas.List.{take_at, take-take, drop_at, drop-drop, drop-take, drop_more, take-append-le}
+use Rattle.std.proofs.lemmas.List.{take_at, take-take, drop_at, drop-drop, drop-take, drop_more}
 use Rattle.std.proofs.Math.Seq.{take-add}
 use Rattle.fam_disk.specs.Crash.{IsTorn, written}
-use Rattle.fam_model.specs.Journal.{short}
 use Rattle.meta_journal.specs.Layout.{part, Holds}
 
 -- a part lies on the disk

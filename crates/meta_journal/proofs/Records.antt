@@ -1,7 +1,6 @@
 -- Records that were written are read again.
-use Rattle.std.proofs.Common.{◌≡◌, ℕ, suc, zero, ◌+◌, ◌-◌, ◌<◌, ◌≤◌, ◌^◌, ◌≢◌, Bool, true, false, List, [], ◌∷◌, ◌++◌, length, take, drop, refl, sym, ◌∙◌, ap, subst, arith, rules, append_assoc, length-append, length-take, length-drop}
-use Rattle.std.specs.Prelude.{Option, Some, None, Result, Ok, Err, IsTrue, nat_le, nat_lt, ◌==◌}
-use Rattle.std.specs.Int.{w32}
+use Rattle.std.proofs.Common.{◌≡◌, ℕ, suc, zero, ◌+◌, ◌<◌, ◌≤◌, ◌^◌, ◌≢◌, Bool, true, false, List, [], ◌∷◌, ◌++◌, length, refl, ◌∙◌, ap, arith, rules, append_assoc, length-append}
+use Rattle.std.specs.Prelude.{Some, Result, Ok, IsTrue, nat_lt, ◌==◌}
 use Rattle.std.proofs.lemmas.List.Sums.{sum_by-cons}
 use Rattle.std.proofs.lemmas.List.{take_at, drop_at}
 use Rattle.std.proofs.lemmas.Bool.Decides.{nat_tests}
@@ -10,14 +9,12 @@ use Rattle.fam_base.specs.Name.{is_good_name}
 use Rattle.fam_model.specs.declared.change.Change.{Change}
 use Rattle.fam_model.specs.declared.change.Change.TheVariants as change
 use Rattle.fam_model.specs.Directory.{after}
-use Rattle.fam_model.specs.Lists.{◌>>=◌, when}
 use Rattle.fam_model.specs.Journal.{body_length, record_length, place_after}
 use Rattle.fam_model.specs.Lawful.{is_lawful_change}
 use Rattle.meta_codec.specs.Body.{body, HasBody, u32}
-use Rattle.meta_codec.specs.Reading.{Field, number_at, decoded}
-use Rattle.meta_codec.proofs.OneSpelling.{u32_again, decoded-body}
+use Rattle.meta_codec.proofs.OneSpelling.{u32_again, decoded-body, length-body}
 use Rattle.meta_journal.specs.Layout.{record_bytes, records, records_end}
-use Rattle.meta_journal.specs.Reading.{Contents, body_at, change_at, records_from, with_first, damaged_unless}
+use Rattle.meta_journal.specs.Reading.{Contents, body_at, change_at, records_from, with_first}
 use Rattle.meta_journal.specs.Image.{AreLawful}
 
 -- a body is short
@@ -36,14 +33,7 @@ body_short (change.Skip next_region next_item) fits = omega arith
 
 -- as long as it is counted
 pub body_is_counted : (c : Change) → length (body c) ≡ body_length c
-body_is_counted (change.CreateRegion region uid gid mode size name) = omega (arith, length-append name [])
-body_is_counted (change.DestroyRegion region) = omega arith
-body_is_counted (change.ResizeRegion region size) = omega arith
-body_is_counted (change.Allocate item region base size uid gid mode name) = omega (arith, length-append name [])
-body_is_counted (change.Deallocate item) = omega arith
-body_is_counted (change.SetItemMode item mode) = omega arith
-body_is_counted (change.SetRegionMode region mode) = omega arith
-body_is_counted (change.Skip next_region next_item) = omega arith
+body_is_counted c = length-body c
 
 -- the place behind records, by their bytes and by their lengths
 pub end_is_place : (changes : List Change) → records_end changes ≡ place_after changes

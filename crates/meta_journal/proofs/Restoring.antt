@@ -1,10 +1,10 @@
 -- The short form makes its rows again, and each of its changes is lawful.
-use Rattle.std.proofs.Common.{◌≡◌, ◌≢◌, ℕ, zero, suc, ◌+◌, ◌%◌, ◌<◌, ◌≤◌, ◌⊎◌, Bool, true, false, eqb, ltb, leb, List, [], ◌∷◌, ◌++◌, length, drop, get_or, Option, Some, None, is_none, inl, inr, refl, sym, ap, ◌∙◌, subst, arith, append_assoc}
-use mathlib.Core.Bool.{not, ◌&&◌, ◌||◌}
-use Rattle.std.specs.List.{All, AllPairs, filter, find, list_all, slice_get, sum_by}
+use Rattle.std.proofs.Common.{◌≡◌, ◌≢◌, ℕ, ◌+◌, ◌%◌, ◌<◌, ◌≤◌, ◌⊎◌, Bool, true, false, eqb, ltb, leb, List, [], ◌∷◌, ◌++◌, length, drop, get_or, is_none, inl, inr, refl, sym, ap, ◌∙◌, subst, arith, append_assoc}
+use mathlib.Core.Bool.{◌&&◌, ◌||◌}
+use Rattle.std.specs.List.{All, AllPairs, list_all, sum_by}
 use Rattle.std.specs.Prelude.{IsTrue}
 use Rattle.std.specs.Str.{bytes_eq}
-use Rattle.std.proofs.lemmas.Bool.{false≢true, cases_Bool, and_from, or_parts, or_left, or_right, eq-eqb, eqb-true, lt-ltb, ltb-false, le-leb}
+use Rattle.std.proofs.lemmas.Bool.{cases_Bool, and_from, or_parts, or_left, or_right, eq-eqb, eqb-true, lt-ltb, ltb-false, le-leb}
 use Rattle.std.proofs.lemmas.List.{append-nil, length-append}
 use Rattle.std.proofs.lemmas.List.Elements.{All-head, All-tail}
 use Rattle.std.proofs.lemmas.List.Sums.{sum_by-append, sum_by-cons}
@@ -20,7 +20,7 @@ use Rattle.fam_model.specs.Journal.{rows_from, rows_of, skip_to, creation, alloc
 use Rattle.fam_model.specs.Lawful.{is_lawful_change, is_good_row, is_next_number}
 use Rattle.fam_model.specs.Limits.{max_region_size, max_total_size, max_regions, max_items, number_end, nobody}
 use Rattle.fam_model.specs.Lists.{is_some_and}
-use Rattle.fam_model.specs.Rows.{IsLawful, IsLawfulRegion, IsLawfulItem, AreApart, common_region, common_item, common_rows, region_of, region_named, item_named, items_in, region_number, item_number, total_size, room, room_end, is_beside, fits}
+use Rattle.fam_model.specs.Rows.{IsLawful, IsLawfulRegion, IsLawfulItem, AreApart, common_region, common_item, common_rows, region_of, region_named, item_named, items_in, region_number, item_number, room, room_end, is_beside, fits}
 use Rattle.fam_rows.proofs.Places.{rises}
 use Rattle.fam_rows.proofs.Searches.{passes_found}
 use Rattle.fam_rows.proofs.Standing.{region_is, five_from, three_from, tested}
@@ -117,13 +117,13 @@ module _ (rows : Rows) (lawful : IsLawful rows) (wanted : Change → Type 0) (sk
       (next_number (item_number row) (omega (arith, number, lawful.next_item_bound)))
       (good_row row.uid row.mode row.size row.name (law.owner (λ zero_is. absurd (omega (arith, zero_is, own)))) law.mode law.size law.name)
       (nothing_kept (λ x. bytes_eq x.name row.name) (λ x. eqb x.region.0 row.region.0) done (λ k d in_range same.
-          apart_names _ _ (apart k d in_range (same_region (get_or done k d) row (eqb-true _ _ same))).0))
+      apart_names _ _ (apart k d in_range (same_region (get_or done k d) row (eqb-true _ _ same))).0))
       (lt-ltb _ _ (omega (arith, lawful.item_count, ap length split, length-append done (row ∷ left))))
       (tested (region_of here row.region.0) (λ r. fits here r row.size row.base) there law.inside.1
       (three_from (eqb (row.base % 64) 0) (leb (row.base + room row.size) there.size) (list_all (is_beside row.size row.base) (items_in here (region_number there)))
       (eq-eqb _ _ law.base) (le-leb _ _ law.inside.2)
       (all_kept_pass (is_beside row.size row.base) (λ x. eqb x.region.0 (region_number there)) done (λ k d in_range same.
-          beside (get_or done k d) row (apart k d in_range (same_region (get_or done k d) row (eqb-true _ _ same ∙ same_number))).1))))
+      beside (get_or done k d) row (apart k d in_range (same_region (get_or done k d) row (eqb-true _ _ same ∙ same_number))).1))))
     where
       same_region : (a b : ItemRow) → a.region.0 ≡ b.region.0 → a.region ≡ b.region
       same_region a b same = λ i. record { 0 = same i }

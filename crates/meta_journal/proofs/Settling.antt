@@ -1,27 +1,23 @@
 -- What a crash leaves while a doubt is settled.
-use Rattle.std.proofs.Common.{◌≡◌, ℕ, ◌+◌, ◌-◌, ◌<◌, ◌≤◌, ◌≢◌, inl, inr, Bool, true, false, List, [], ◌∷◌, ◌++◌, length, refl, sym, ◌∙◌, ap, subst, arith}
-use Rattle.std.specs.Prelude.{◌⊎◌, Option, Some, None, is_some, unwrap_or, Result, Ok, slice_index, replicate, option_map, ◌==◌, if◌then◌else◌}
-use Rattle.std.proofs.lemmas.Bool.{cases_eq}
-use Rattle.std.proofs.lemmas.Bool.Decides.{nat_tests}
+use Rattle.std.proofs.Common.{◌≡◌, ℕ, ◌+◌, ◌<◌, ◌≤◌, inl, inr, List, [], ◌∷◌, ◌++◌, length, refl, sym, ◌∙◌, ap, subst, arith}
+use Rattle.std.specs.Prelude.{◌⊎◌, Option, Some, None, is_some, unwrap_or, slice_index, replicate, option_map, ◌==◌, if◌then◌else◌}
 use Rattle.fam_disk.proofs.Moments.{now_after, written_after, started, goes_on}
 use Rattle.fam_disk.specs.Crash.{DiskState, IsTorn, IsSynced, Leaves, LeavesOnly, Passes, written}
 use Rattle.fam_disk.specs.Torn.{torn_same, torn_written}
 use Rattle.fam_model.specs.declared.change.Change.{Change}
 use Rattle.fam_model.specs.declared.rows.Rows.{Rows}
-use Rattle.fam_model.specs.Rows.{common_rows}
 use Rattle.fam_model.specs.Journal.{rows_of}
 use Rattle.meta_journal.specs.declared.area.Area.{Area}
 use Rattle.meta_journal.specs.declared.area.Area.TheVariants.{First, Second}
 use Rattle.meta_journal.specs.declared.doubt.Doubt.{Doubt}
 use Rattle.meta_journal.specs.declared.doubt.Doubt.TheVariants.{Nothing, OfChange, OfArea}
-use Rattle.meta_journal.specs.Image.{HasHeader, IsClosed, HasChanges, HasChangesAndDoubt, HasOther, IsImage, other_area}
+use Rattle.meta_journal.specs.Image.{HasHeader, IsClosed, HasChanges, IsImage, other_area}
 use Rattle.meta_journal.specs.Layout.{Holds, magic, area_byte, area_in_use, area_start, disk_place, records_end, records, record_bytes}
 use Rattle.meta_journal.specs.Reading.{HasRows}
-use Rattle.meta_journal.specs.State.{changes_before, HasRowsOrAfter, HasRowsInDoubt}
+use Rattle.meta_journal.specs.State.{changes_before, HasRowsInDoubt}
 use Rattle.meta_journal.specs.Settling.{settling_byte}
 use Rattle.meta_journal.proofs.Adding.{byte_below, header_below, header_long, area_below, start_low, rows_read, gate_place, zero_is_not_one, acknowledged_is, front_of, doubtful_reads}
-use Rattle.meta_journal.proofs.Images.{start_place}
-use Rattle.meta_journal.proofs.Parts.{holds_below, holds_above, holds_written, holds_inside, holds_front, byte_stands, byte_is}
+use Rattle.meta_journal.proofs.Parts.{holds_below, holds_above, holds_written, holds_inside, byte_stands, byte_is}
 
 pub byte_above : (i w n : ℕ) (old new : List ℕ) → w + n ≤ i → i < length old → IsTorn w n old new → slice_index new i ≡ slice_index old i
 byte_above i w n old new above inside torn =

@@ -1,6 +1,6 @@
 -- What a crash leaves while the journal goes over to its other area.
-use Rattle.std.proofs.Common.{◌≡◌, ℕ, ◌+◌, ◌-◌, ◌<◌, ◌≤◌, ◌≢◌, inl, inr, Bool, true, false, List, [], ◌∷◌, ◌++◌, length, min, refl, sym, ◌∙◌, ap, subst, arith, length-append, length-take}
-use Rattle.std.specs.Prelude.{◌⊎◌, Option, Some, None, IsSome, IfSome, is_some, unwrap_or, take, drop, slice_index, replicate, option_map}
+use Rattle.std.proofs.Common.{◌≡◌, ℕ, ◌+◌, ◌-◌, ◌<◌, ◌≤◌, inl, inr, false, List, [], ◌∷◌, ◌++◌, length, min, refl, sym, ◌∙◌, ap, subst, arith, length-append, length-take}
+use Rattle.std.specs.Prelude.{◌⊎◌, Option, Some, None, IsSome, IfSome, is_some, unwrap_or, take, drop, slice_index, option_map}
 use Rattle.fam_disk.proofs.Moments.{now_after, written_after, written_from, started, goes_on}
 use Rattle.fam_disk.specs.Crash.{DiskState, IsKept, IsTorn, IsSynced, Leaves, LeavesOnly, Passes, written}
 use Rattle.fam_disk.specs.Torn.{torn_same, torn_written}
@@ -10,14 +10,14 @@ use Rattle.fam_model.specs.Journal.{rows_of}
 use Rattle.meta_journal.specs.declared.area.Area.{Area}
 use Rattle.meta_journal.specs.declared.area.Area.TheVariants.{First, Second}
 use Rattle.meta_journal.specs.declared.doubt.Doubt.{Doubt}
-use Rattle.meta_journal.specs.declared.doubt.Doubt.TheVariants.{Nothing, OfArea}
+use Rattle.meta_journal.specs.declared.doubt.Doubt.TheVariants.{Nothing}
 use Rattle.meta_journal.specs.State.{changes_before, changes_in}
 use Rattle.std.proofs.lemmas.List.{take_all, drop_all}
-use Rattle.meta_journal.specs.Image.{HasHeader, IsClosed, HasChanges, HasOther, IsImage, other_area}
-use Rattle.meta_journal.specs.Layout.{Holds, magic, area_byte, area_in_use, area_start, disk_place, records_end, records}
+use Rattle.meta_journal.specs.Image.{IsClosed, HasChanges, IsImage, other_area}
+use Rattle.meta_journal.specs.Layout.{Holds, area_byte, area_start, disk_place, records_end, records}
 use Rattle.meta_journal.specs.Reading.{records_from, HasRows}
 use Rattle.meta_journal.specs.Short.{Restores}
-use Rattle.meta_journal.proofs.Adding.{byte_below, header_below, header_long, area_below, rows_read, gate_place, zero_is_not_one, acknowledged_is, front_of}
+use Rattle.meta_journal.proofs.Adding.{byte_below, header_below, header_long, area_below, rows_read, zero_is_not_one, acknowledged_is, front_of}
 use Rattle.meta_journal.proofs.Images.{start_place}
 use Rattle.meta_journal.proofs.Parts.{holds_below, holds_above, holds_written, holds_front, holds_back, holds_inside, byte_is}
 use Rattle.meta_journal.proofs.Settling.{OneOfTwo, byte_above, start_min, by_byte, area_untouched, header_untouched, one_of_two_reads}

@@ -10,4 +10,5 @@ pub mod Settling
 pub mod Short
 pub mod State
 pub mod Versions
+pub mod Worked
 pub mod Writing

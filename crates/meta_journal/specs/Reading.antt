@@ -1,5 +1,5 @@
 -- What the bytes of a disk stand for.
-use Rattle.std.specs.Prelude.{◌≡◌, ℕ, zero, suc, ◌+◌, ◌-◌, Bool, not, ◌==◌, ◌&&◌, nat_le, nat_lt, List, [], ◌∷◌, ◌++◌, length, take, drop, Option, Some, None, Result, Ok, Err, if◌then◌else◌}
+use Rattle.std.specs.Prelude.{◌≡◌, ℕ, zero, suc, ◌+◌, Bool, not, ◌==◌, nat_le, nat_lt, List, [], ◌∷◌, length, take, drop, Some, None, Result, Ok, Err, if◌then◌else◌}
 use Rattle.std.specs.Int.{w32}
 use Rattle.fam_model.specs.declared.rows.Rows.{Rows}
 use Rattle.fam_model.specs.declared.change.Change.{Change}
@@ -9,7 +9,6 @@ use Rattle.fam_model.specs.Lists.{◌>>=◌, when}
 use Rattle.fam_model.specs.Rows.{common_rows}
 use Rattle.meta_codec.specs.Reading.{Field, decoded, number_at}
 use Rattle.meta_journal.specs.declared.area.Area.{Area}
-use Rattle.meta_journal.specs.declared.area.Area.TheVariants.{First, Second}
 use Rattle.meta_journal.specs.Layout.{has_header, is_fresh, is_first_version, area_in_use, area_start, area_bytes, disk_place, header_end}
 use Rattle.meta_journal.specs.Versions.{may_hold}
 

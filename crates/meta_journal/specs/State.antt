@@ -1,7 +1,9 @@
 -- What contracts see of a journal.
-use Rattle.std.specs.Prelude.{◌≡◌, ◌⊎◌, ℕ, ◌+◌, ◌-◌, ◌<◌, ◌≤◌, nat_le, List, [], ◌∷◌, ◌++◌, length, Option, Some, None, IsSome, IsTrue, unwrap_or, Result, Ok, Err, false, if◌then◌else◌}
+use Rattle.std.specs.Prelude.{◌≡◌, ◌⊎◌, ℕ, ◌+◌, ◌-◌, ◌<◌, ◌≤◌, nat_le, Bool, List, [], ◌∷◌, ◌++◌, length, Option, Some, None, IsSome, IsTrue, IsFalse, unwrap_or, Result, Ok, Err, false, if◌then◌else◌}
+use Rattle.fam_base.specs.declared.error.FamError.{FamError}
+use Rattle.fam_base.specs.declared.error.FamError.TheVariants.{Memory, JournalFull}
 use Rattle.fam_disk.specs.declared.disk.Disk.{Ghosts}
-use Rattle.fam_disk.specs.Crash.{DiskState, Leaves}
+use Rattle.fam_disk.specs.Crash.{Leaves}
 use Rattle.fam_model.specs.declared.change.Change.{Change}
 use Rattle.fam_model.specs.declared.rows.Rows.{Rows}
 use Rattle.fam_model.specs.Directory.{after}
@@ -68,25 +70,23 @@ MayHold limit changes doubt change image = HasRowsInDoubt limit changes doubt im
 
 -- Appending
 
--- a change fits behind the records up to a place
-abbrev pub HasRoom : ℕ → ℕ → Change → Type 0
-HasRoom limit used change = used + record_length change + 1 ≤ limit
+-- a change fits behind the records up to a place, with a closed gate behind it
+abbrev pub has_room : ℕ → ℕ → Change → Bool
+has_room limit used change = nat_le (used + record_length change + 1) limit
 
--- What an append goes on from where it goes over to the other area, and where not: the changes, and the place behind them.
+-- the changes that an append goes on from: these, or the short form of their rows where there is no room behind them
+abbrev pub kept_changes : ℕ → ℕ → List Change → Change → List Change
+kept_changes limit used changes change = if has_room limit used change then changes else short (rows_of changes)
 
-abbrev pub changes_to_go_on : Option (List ℕ) → List Change → List Change
-changes_to_go_on None changes = changes
-changes_to_go_on (Some form) changes = short (rows_of changes)
+-- the place that it goes on from
+abbrev pub kept_place : ℕ → ℕ → Rows → Change → ℕ
+kept_place limit used rows change = if has_room limit used change then used else short_place rows
 
-abbrev pub place_to_go_on : Option (List ℕ) → ℕ → Rows → ℕ
-place_to_go_on None used rows = used
-place_to_go_on (Some form) used rows = short_place rows
-
--- what is written to go over to the other area, if a change has no room behind the records up to a place
+-- the short form that has to be written first, if one has, so that there is room for a change
 abbrev pub IsForm : ℕ → ℕ → Rows → Change → Option (List ℕ) → Type 0
-IsForm limit used rows change None = HasRoom limit used change
+IsForm limit used rows change None = IsTrue (has_room limit used change)
 IsForm limit used rows change (Some form) =
-    (limit < used + record_length change + 1) × (form ≡ short_bytes rows) × Restores rows (short rows) × HasRoom limit (short_place rows) change
+    IsFalse (has_room limit used change) × IsTrue (has_room limit (short_place rows) change) × (form ≡ short_bytes rows) × Restores rows (short rows)
 
 -- the memory for the append of a change to a journal of these rows is taken
 pub record IsReserved {D : Type 0} {disk : Ghosts D} (journal : Journal D disk) (change : Change) (rows : Rows) : Type 0 where
@@ -97,3 +97,53 @@ pub record IsReserved {D : Type 0} {disk : Ghosts D} (journal : Journal D disk) 
   pub lawful : IsSome (disk.state journal.disk).content → IsTrue (is_lawful_change rows change)
   pub has_body : HasBody change
   pub form : IsForm journal.limit journal.used rows change reserve.short
+
+-- a change is reserved, with this short form to be written first, or none
+abbrev pub Keeps : Option Reserve → Change → Option (List ℕ) → Type 0
+Keeps None change form = ⊥
+Keeps (Some reserve) change form = (reserve.record.change ≡ change) × (reserve.short ≡ form)
+
+-- only what is reserved differs
+pub record IsUntouched {D : Type 0} {disk : Ghosts D} (old new : Journal D disk) : Type 0 where
+  pub same_disk : new.disk ≡ old.disk
+  pub limit : new.limit ≡ old.limit
+  pub area : new.area ≡ old.area
+  pub used : new.used ≡ old.used
+  pub doubt : new.doubt ≡ old.doubt
+
+-- The doubt after an append that failed: the one before it, or none, or that of the change; or that of the area in use,
+-- where there was no room.
+abbrev pub MayDoubt : Doubt → Bool → Change → Doubt → Type 0
+MayDoubt before room change now = (now ≡ before) ⊎ (now ≡ Nothing) ⊎ (now ≡ OfChange change) ⊎ ((now ≡ OfArea) × IsFalse room)
+
+-- why there is no memory for the append of a change to a journal of these rows: none was given, or there is no room, neither
+-- behind the records up to a place nor behind the short form
+abbrev pub IsRefusal : ℕ → ℕ → Rows → Change → FamError → Type 0
+IsRefusal limit used rows change error =
+    (error ≡ Memory)
+    ⊎ ((error ≡ JournalFull (short_place rows) (record_length change)) × IsFalse (has_room limit used change) × IsFalse (has_room limit (short_place rows) change))
+
+-- Going over to the other area, or not
+
+-- what a journal goes on from where this short form is written first, or none
+abbrev pub changes_behind : Option (List ℕ) → List Change → List Change
+changes_behind None changes = changes
+changes_behind (Some form) changes = short (rows_of changes)
+
+abbrev pub place_behind : Option (List ℕ) → ℕ → ℕ
+place_behind None used = used
+place_behind (Some form) used = 15 + length form
+
+-- a short form may be written now
+pub record MayGoOver {D : Type 0} {disk : Ghosts D} (journal : Journal D disk) (form : List ℕ) : Type 0 where
+  pub near : journal.limit ≤ journal.used + 128
+  pub room : 15 + length form < journal.limit
+  pub is_form : IsSome (disk.state journal.disk).content → form ≡ short_bytes (rows_of (acknowledged journal))
+  pub restores : IsSome (disk.state journal.disk).content
+      → Restores (rows_of (acknowledged journal)) (short (rows_of (acknowledged journal)))
+  pub is_written : 1 ≤ length form
+
+-- it may, if there is one
+abbrev pub MayGoOn : {D : Type 0} {disk : Ghosts D} → Journal D disk → Option (List ℕ) → Type 0
+MayGoOn journal None = Unit {0}
+MayGoOn journal (Some form) = MayGoOver journal form

@@ -1,5 +1,5 @@
 -- Which changes a journal of either version may hold.
-use Rattle.std.specs.Prelude.{ℕ, Bool, true, ◌&&◌, nat_le, nat_lt, length, if◌then◌else◌}
+use Rattle.std.specs.Prelude.{Bool, true, ◌&&◌, nat_le, nat_lt, length, if◌then◌else◌}
 use Rattle.fam_model.specs.declared.change.Change.{Change}
 use Rattle.fam_model.specs.declared.change.Change.TheVariants as change
 use Rattle.fam_model.specs.declared.rows.Rows.{Rows}

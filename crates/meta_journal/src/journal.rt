@@ -11,9 +11,13 @@ use fam_model::Change;
 use std::alloc::Global;
 
 mod adding;
+mod appending;
 mod opening;
+mod reserving;
 mod settling;
 mod switching;
+#[cfg(test)]
+mod tests;
 
 /// The journal of a directory, on a disk.
 #[derive(Drop)]

@@ -15,5 +15,5 @@ mod starting;
 pub use area::Area;
 pub use doubt::Doubt;
 pub use journal::Journal;
+pub use laws::{short_form_is_small, short_form_restores, worked_journals};
 pub use starting::OpenFault;
-pub use laws::{short_form_is_small, short_form_restores};

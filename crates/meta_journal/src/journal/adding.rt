@@ -1,6 +1,6 @@
 //! Adding a record.
 
-ghost use Rattle.std.specs.Prelude.{◌≡◌, ◌+◌, ◌++◌, [], ◌∷◌, OnOk, OnErr, IsSome, ◌⊎◌};
+ghost use Rattle.std.specs.Prelude.{◌≡◌, ◌+◌, ◌≤◌, ◌++◌, [], ◌∷◌, OnOk, OnErr, IsSome, ◌⊎◌};
 ghost use Rattle.fam_base.specs.Causes.{HasCause};
 ghost use Rattle.fam_disk.specs.Crash.{LeavesOnly};
 ghost use Rattle.fam_model.specs.Journal.{record_length};
@@ -13,7 +13,7 @@ use fam_base::Failed;
 use fam_disk::{Disk, write_synced};
 
 impl<D: Disk> Journal<D> {
-    ghost use Rattle.meta_journal.specs.State.{acknowledged, IsSound, HasRowsOrAfter, HasRoom};
+    ghost use Rattle.meta_journal.specs.State.{acknowledged, IsSound, HasRowsOrAfter};
     ghost use Rattle.meta_journal.specs.Image.{IsAddable};
     ghost use Rattle.meta_journal.specs.declared.doubt.Doubt.TheVariants.{Nothing, OfChange};
 
@@ -22,7 +22,7 @@ impl<D: Disk> Journal<D> {
         requires sound { IsSound self.old }
         requires settled { self.old.doubt ≡ Nothing }
         requires addable { IsSome (D.state self.old.disk).content → IsAddable (acknowledged self.old) reserved.change }
-        requires room { HasRoom self.old.limit self.old.used reserved.change }
+        requires room { self.old.used + record_length reserved.change + 1 ≤ self.old.limit }
         ensures sound { IsSound self.new }
         ensures any_moment { LeavesOnly (HasRowsOrAfter self.old.limit (acknowledged self.old) reserved.change)
             (D.state self.old.disk) (D.state self.new.disk) }

@@ -3,6 +3,7 @@
 ghost use Rattle.std.specs.Prelude.{◌≡◌, OnOk, OnErr, Err};
 ghost use Rattle.fam_base.specs.Causes.{HasCause};
 ghost use Rattle.fam_disk.specs.Crash.{Leaves, LeavesOnly};
+ghost use Rattle.fam_model.specs.Journal.{rows_of};
 
 use crate::doubt::{Doubt, settling};
 use crate::journal::Journal;
@@ -37,6 +38,7 @@ impl<D: Disk> Journal<D> {
 }
 
 impl<D: Disk> Journal<D> {
+    ghost use Rattle.meta_journal.specs.Reading.{HasRows};
     ghost use Rattle.meta_journal.specs.State.{acknowledged, IsSound, IsSameJournal, HasRowsInDoubt};
     ghost use Rattle.meta_journal.specs.declared.doubt.Doubt.TheVariants.{Nothing};
     ghost use Rattle.fam_base.specs.declared.error.FamError.TheVariants.{DiskFault};
@@ -50,6 +52,8 @@ impl<D: Disk> Journal<D> {
         ensures any_moment { LeavesOnly (HasRowsInDoubt self.old.limit (acknowledged self.old) self.old.doubt)
             (D.state self.old.disk) (D.state self.new.disk) }
         ensures settled { OnOk result (self.new.doubt ≡ Nothing) }
+        ensures images { OnOk result (Leaves (D.state self.new.disk) (D.state self.new.disk).moment
+            (HasRows self.new.limit (rows_of (acknowledged self.new)))) }
         ensures in_doubt { OnErr result (self.new.doubt ≡ self.old.doubt) }
         ensures failed { OnErr result (result ≡ Err DiskFault) }
         ensures cause { HasCause (D.state self.old.disk).faults (D.state self.new.disk).faults result }

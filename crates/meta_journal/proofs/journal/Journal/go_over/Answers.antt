@@ -1,6 +1,6 @@
-use Rattle.std.proofs.Common.{◌≡◌, ℕ, ◌+◌, ◌-◌, ◌<◌, ◌≤◌, List, [], ◌∷◌, ◌++◌, length, length-append, refl, sym, ◌∙◌, ap, subst, arith}
+use Rattle.std.proofs.Common.{◌≡◌, ℕ, ◌+◌, ◌<◌, List, [], ◌∷◌, length, length-append, sym, ◌∙◌, ap, subst, arith}
 use Rattle.std.specs.Prelude.{IsSome, option_map}
-use Rattle.fam_disk.specs.Crash.{IsTorn, Leaves, LeavesOnly, Passes, written}
+use Rattle.fam_disk.specs.Crash.{IsTorn, Leaves, Passes, written}
 use Rattle.fam_disk.proofs.Moments.{started, passing, where_told, now_where_told}
 use Rattle.fam_model.specs.Journal.{rows_of, short}
 use Rattle.meta_journal.specs.Image.{IsImage, other_area}

@@ -1,4 +1,4 @@
-use Rattle.std.proofs.Common.{◌≡◌, ℕ, ◌+◌, ◌-◌, ◌<◌, ◌≤◌, List, length, length-take, refl, sym, ◌∙◌, ap, subst, arith}
+use Rattle.std.proofs.Common.{◌≡◌, ℕ, ◌-◌, List, length, length-take, sym, ◌∙◌, ap, subst, arith}
 use Rattle.std.specs.Prelude.{IsSome, Some, option_map, replicate, take, min}
 use Rattle.fam_disk.specs.Crash.{Leaves, written}
 use Rattle.fam_disk.proofs.Moments.{mapped_is, started, passing, where_told, now_where_told}

@@ -1,4 +1,4 @@
-use Rattle.std.proofs.Common.{◌≡◌, ◌+◌, ◌++◌, [], ◌∷◌, ap, ◌∙◌, arith}
+use Rattle.std.proofs.Common.{◌+◌, ◌++◌, [], ◌∷◌, ap, ◌∙◌}
 use Rattle.fam_model.specs.declared.change.Change.{Change}
 use Rattle.fam_model.specs.Journal.{skip_to, allocation}
 use Rattle.fam_model.specs.Rows.{item_number}

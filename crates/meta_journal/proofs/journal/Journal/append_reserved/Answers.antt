@@ -1,0 +1,58 @@
+use Rattle.std.proofs.Common.{ap, sym, ◌∙◌}
+use Rattle.fam_model.specs.Journal.{rows_of}
+use Rattle.meta_journal.specs.State.{acknowledged}
+use Rattle.meta_journal.proofs.Appending.{may_go_on, settled_so_far, room_so_far, added_so_far}
+use Rattle.meta_journal.proofs.journal.Journal.append_reserved.Goals as goal
+
+pub make_room-requires-clause-form : goal.make_room-requires-clause-form
+make_room-requires-clause-form g c κs within =
+    let settled = c.settle_doubt.ensures in
+    may_go_on c.args.self.now c.settle_doubt.new.self settled.same settled.acknowledged (λ told. sym settled.any_moment.tells ∙ told) c.args.reserve.short c.requires.form
+
+pub returns-in_err-make_room-clause-any_moment : goal.returns-in_err-make_room-clause-any_moment
+returns-in_err-make_room-clause-any_moment g c =
+    let j = c.args.self.now in
+    let D = g.D.Disk.state in
+    let S0 = D j.disk in
+    let S1 = D c.settle_doubt.new.self.disk in
+    let S2 = D c.make_room.new.self.disk in
+    let settled = c.settle_doubt.ensures in
+    let room = c.make_room.ensures in
+    let change = c.args.reserve.record.change in
+    let A = acknowledged j in
+    room_so_far j.limit A j.doubt change S0 S1 S2 c.settle_doubt.new.self.limit (acknowledged c.settle_doubt.new.self) settled.same.limit (ap rows_of settled.acknowledged)
+    (settled_so_far j.limit A j.doubt change S0 S1 settled.any_moment) room.any_moment
+
+pub returns-in_err-add-clause-any_moment : goal.returns-in_err-add-clause-any_moment
+returns-in_err-add-clause-any_moment g c =
+    let j = c.args.self.now in
+    let D = g.D.Disk.state in
+    let S0 = D j.disk in
+    let S1 = D c.settle_doubt.new.self.disk in
+    let S2 = D c.make_room.new.self.disk in
+    let S3 = D c.add.new.self.disk in
+    let settled = c.settle_doubt.ensures in
+    let room = c.make_room.ensures in
+    let change = c.args.reserve.record.change in
+    let A = acknowledged j in
+    let so_far = room_so_far j.limit A j.doubt change S0 S1 S2 c.settle_doubt.new.self.limit (acknowledged c.settle_doubt.new.self) settled.same.limit (ap rows_of settled.acknowledged)
+    (settled_so_far j.limit A j.doubt change S0 S1 settled.any_moment) room.any_moment in
+    added_so_far j.limit A j.doubt change S0 S2 S3 c.make_room.new.self.limit (acknowledged c.make_room.new.self) (room.limit ∙ settled.same.limit) (room.same_rows ∙ ap rows_of settled.acknowledged)
+    so_far c.add.ensures.any_moment
+
+pub returns-clause-any_moment : goal.returns-clause-any_moment
+returns-clause-any_moment g c =
+    let j = c.args.self.now in
+    let D = g.D.Disk.state in
+    let S0 = D j.disk in
+    let S1 = D c.settle_doubt.new.self.disk in
+    let S2 = D c.make_room.new.self.disk in
+    let S3 = D c.add.new.self.disk in
+    let settled = c.settle_doubt.ensures in
+    let room = c.make_room.ensures in
+    let change = c.args.reserve.record.change in
+    let A = acknowledged j in
+    let so_far = room_so_far j.limit A j.doubt change S0 S1 S2 c.settle_doubt.new.self.limit (acknowledged c.settle_doubt.new.self) settled.same.limit (ap rows_of settled.acknowledged)
+    (settled_so_far j.limit A j.doubt change S0 S1 settled.any_moment) room.any_moment in
+    added_so_far j.limit A j.doubt change S0 S2 S3 c.make_room.new.self.limit (acknowledged c.make_room.new.self) (room.limit ∙ settled.same.limit) (room.same_rows ∙ ap rows_of settled.acknowledged)
+    so_far c.add.ensures.any_moment
