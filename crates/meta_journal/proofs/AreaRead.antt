@@ -1,5 +1,5 @@
 -- Where an area is read, and where its records end.
-use Rattle.std.proofs.Common.{◌≡◌, ◌≢◌, ℕ, zero, suc, ◌+◌, ◌-◌, ◌<◌, ◌≤◌, min, Bool, true, false, cond, List, [], ◌∷◌, ◌++◌, length, take, drop, refl, sym, ◌∙◌, ap, subst, arith, inl, inr, length-append, length-drop}
+use Rattle.std.proofs.Common.{◌≡◌, ℕ, zero, suc, ◌+◌, ◌-◌, ◌<◌, ◌≤◌, min, Bool, true, false, cond, List, [], ◌∷◌, length, take, drop, refl, ◌∙◌, ap, subst, arith, inl, inr, length-append, length-drop}
 use Rattle.std.specs.Prelude.{◌⊎◌, Option, Some, None, Result, Ok, Err, IfOk, IfErr, ◌==◌}
 use Rattle.std.specs.Option.{ForSome}
 use Rattle.std.proofs.lemmas.List.{take_min}
@@ -11,7 +11,7 @@ use Rattle.fam_model.specs.Rows.{common_rows}
 use Rattle.meta_codec.proofs.Spelled.{IsBytes}
 use Rattle.meta_codec.specs.Reading.{Field}
 use Rattle.meta_journal.specs.Layout.{part, area_start, area_bytes, record_bytes, records}
-use Rattle.meta_journal.specs.Opening.{Gives, read_from, summed}
+use Rattle.meta_journal.specs.Opening.{Gives, read_from}
 use Rattle.meta_journal.specs.Reading.{Contents, change_at, damaged_unless, records_from, with_first}
 use Rattle.meta_journal.specs.declared.area.Area.{Area}
 use Rattle.meta_journal.specs.declared.reading.Records.{Records}
@@ -63,7 +63,7 @@ damage_inside (suc most) is_first rows place (gate ∷ bytes) p fits is =
           let tail_fits : IsBytes bytes = λ i. fits (suc i) in
           let found = recorded is_first rows bytes x tail_fits later.1 in
           let inside = damage_inside most is_first (after rows x.0) (place + record_length x.0) x.1 p found.rest_fits
-              (first_damaged x.0 (records_from most is_first (after rows x.0) (place + record_length x.0) x.1) p later.2) in
+          (first_damaged x.0 (records_from most is_first (after rows x.0) (place + record_length x.0) x.1) p later.2) in
           let size : length bytes + 1 ≡ record_length x.0 + length x.1 = omega (arith, ap length found.parts, record_is_counted x.0, length-append (record_bytes x.0) x.1) in
           (omega (arith, inside.0), omega (arith, inside.1, size))
     ]

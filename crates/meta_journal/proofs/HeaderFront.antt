@@ -1,9 +1,9 @@
 -- A header is read from the front of a disk.
-use Rattle.std.proofs.Common.{◌≡◌, ℕ, ◌+◌, ◌<◌, ◌≤◌, List, length, take, drop, replicate, refl, sym, ◌∙◌, ap, arith}
+use Rattle.std.proofs.Common.{◌≡◌, ℕ, ◌+◌, ◌<◌, ◌≤◌, List, take, drop, refl, ◌∙◌, ap, arith}
 use Rattle.std.specs.Prelude.{slice_index}
 use Rattle.std.proofs.lemmas.List.{drop-take, get_or-take, take-take}
 use Rattle.meta_journal.specs.Found.{header_in}
-use Rattle.meta_journal.specs.Layout.{part, area_in_use, has_header, is_first_version}
+use Rattle.meta_journal.specs.Layout.{part}
 
 part_front : (at n m : ℕ) (disk : List ℕ) → n ≤ m → part at n (take (at + m) disk) ≡ part at n disk
 part_front at n m disk less = ap (λ (l : List ℕ). take n l) (drop-take at m disk) ∙ take-take n m (drop at disk) less

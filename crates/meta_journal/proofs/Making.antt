@@ -1,15 +1,14 @@
 -- What a crash leaves at each moment while a fresh disk is made a journal.
-use Rattle.std.proofs.Common.{◌≡◌, ℕ, ◌≤◌, List, [], ◌∷◌, ◌++◌, length, refl, sym, ◌∙◌, ap, subst, arith, append_assoc}
-use Rattle.std.specs.Prelude.{Option, Some, Result, Ok, Err, OnOk, option_map}
+use Rattle.std.proofs.Common.{◌≡◌, ℕ, ◌≤◌, List, [], ◌∷◌, ◌++◌, length, sym, ◌∙◌, ap, subst, append_assoc}
+use Rattle.std.specs.Prelude.{Some, Result, Ok, Err, option_map}
 use Rattle.std.proofs.lemmas.List.{append-nil}
 use Rattle.fam_disk.specs.Crash.{DiskState, IsSynced, IsTorn, Leaves, LeavesOnly, Passes, written}
-use Rattle.fam_disk.specs.Torn.{torn_same}
 use Rattle.fam_disk.proofs.Moments.{started, goes_on, written_from}
 use Rattle.fam_model.specs.Rows.{common_rows}
 use Rattle.meta_journal.specs.Found.{IsBlank}
-use Rattle.meta_journal.specs.Opened.{empty_behind, empty_journal, Makes, Opens}
+use Rattle.meta_journal.specs.Opened.{empty_behind, Makes, Opens}
 use Rattle.meta_journal.specs.Reading.{HasRows}
-use Rattle.meta_journal.proofs.Fresh.{blank_fresh, cleared, clearing, filled, filled_rows, filling, finished, finishing, fresh_rows, short_fresh, IsFilled}
+use Rattle.meta_journal.proofs.Fresh.{blank_fresh, clearing, filled, filled_rows, filling, finished, finishing, fresh_rows, short_fresh, IsFilled}
 use Rattle.meta_journal.proofs.Opening.{after_sync, Anything, before_sync, synced_has}
 
 -- a step of which nothing is told
@@ -42,7 +41,7 @@ module _ (c : List ℕ) (blank : IsBlank c) (old mid : DiskState) (reads : old.c
       }
 
   module _ (synced : IsSynced mid) (is : mid.content ≡ option_map (written 1 empty_behind) old.content) (first : mid.syncs ≡ old.syncs ++ mid.moment ∷ [])
-    (new : DiskState) (crash' : Passes (IsTorn 0 1) mid new) where
+      (new : DiskState) (crash' : Passes (IsTorn 0 1) mid new) where
     filled_now : Leaves mid mid.moment IsFilled
     filled_now = written_from 1 empty_behind old mid IsFilled synced is (λ d told. filled d (subst IsBlank (same d told) blank))
       where

@@ -1,9 +1,9 @@
 -- How the steps of an opening follow one another.
-use Rattle.std.proofs.Common.{◌≡◌, ℕ, ◌+◌, ◌<◌, ◌≤◌, List, [], ◌∷◌, ◌++◌, length, get_or, refl, sym, ◌∙◌, ap, subst, arith, append_assoc, length-append}
-use Rattle.std.specs.Prelude.{Option, Some, None, IfSome, is_some}
+use Rattle.std.proofs.Common.{◌≡◌, ℕ, List, [], ◌∷◌, ◌++◌, length, get_or, refl, sym, ◌∙◌, ap, subst, arith, append_assoc, length-append}
+use Rattle.std.specs.Prelude.{Option, Some, None, IfSome}
 use Rattle.std.proofs.lemmas.List.{get_or_at}
-use Rattle.fam_disk.specs.Crash.{DiskState, IsKept, IsSynced, Leaves, LeavesOnly, Passes}
-use Rattle.fam_disk.proofs.Moments.{now_after, started, goes_on, run_on, passing}
+use Rattle.fam_disk.specs.Crash.{DiskState, IsKept, IsSynced, Leaves, LeavesOnly}
+use Rattle.fam_disk.proofs.Moments.{now_after, started, goes_on, run_on}
 use Rattle.meta_journal.specs.Opened.{Looks, Opens}
 
 abbrev pub Anything : List ℕ → Type 0

@@ -1,7 +1,7 @@
 -- What is read of an area stands there.
-use Rattle.std.proofs.Common.{◌≡◌, ◌≢◌, ℕ, zero, suc, ◌+◌, ◌-◌, ◌^◌, ◌<◌, ◌≤◌, Bool, true, false, cond, List, [], ◌∷◌, ◌++◌, length, get_or, take, drop, refl, sym, ap, subst, ◌∙◌, append_assoc, arith, rules, inl, inr, nat_lt, nat_le, length-take, length-drop, length-append}
+use Rattle.std.proofs.Common.{◌≡◌, ◌≢◌, ℕ, zero, suc, ◌+◌, ◌-◌, ◌<◌, ◌≤◌, Bool, true, false, cond, List, [], ◌∷◌, ◌++◌, length, get_or, take, drop, refl, sym, ap, subst, ◌∙◌, append_assoc, arith, rules, inl, inr, nat_lt, nat_le, length-take, length-drop, length-append}
 use Rattle.std.specs.Prelude.{◌⊎◌, Option, Some, None, Result, Ok, Err, IsTrue, ◌==◌, ◌&&◌}
-use Rattle.std.specs.Int.{w32, byte_len, from_le_bytes, to_le_bytes}
+use Rattle.std.specs.Int.{w32, from_le_bytes}
 use Rattle.std.proofs.lemmas.Bool.{cases_lt}
 use Rattle.std.proofs.lemmas.Bool.Decides.{nat_tests}
 use Rattle.std.proofs.lemmas.List.{take_all, take-append-drop, get_or-drop, get_or-take, get_or_past}
@@ -9,10 +9,10 @@ use Rattle.std.proofs.lemmas.Nat.{le_bytes_4}
 use Rattle.fam_model.specs.declared.rows.Rows.{Rows}
 use Rattle.fam_model.specs.declared.change.Change.{Change}
 use Rattle.fam_model.specs.Directory.{after}
-use Rattle.fam_model.specs.Journal.{record_length, body_length, rows_from}
+use Rattle.fam_model.specs.Journal.{record_length}
 use Rattle.fam_model.specs.Lawful.{is_lawful_change}
 use Rattle.fam_model.specs.Lists.{◌>>=◌, when}
-use Rattle.meta_codec.specs.Body.{body, HasBody, u32}
+use Rattle.meta_codec.specs.Body.{HasBody, u32}
 use Rattle.meta_codec.specs.Reading.{Field, number_at, decoded}
 use Rattle.meta_codec.proofs.Spelled.{IsBytes, decoded-spelled}
 use Rattle.meta_codec.proofs.OneSpelling.{length-body}
@@ -21,7 +21,6 @@ use Rattle.meta_journal.specs.Layout.{record_bytes, records}
 use Rattle.meta_journal.specs.Opening.{summed, read_from}
 use Rattle.meta_journal.specs.Reading.{Contents, body_at, change_at, records_from, with_first, damaged_unless}
 use Rattle.meta_journal.specs.Versions.{may_hold, fits_first_version}
-use Rattle.meta_journal.specs.declared.reading.Records.{Records}
 
 pub is_bytes-drop : (n : ℕ) (bytes : List ℕ) → IsBytes bytes → IsBytes (drop n bytes)
 is_bytes-drop n bytes fits i = rw get_or-drop (fits (n + i))
@@ -83,7 +82,7 @@ bodied bytes x fits is =
     let inside : n < length rest = below n (length rest) test.0 in
     let long : length (take n rest) ≡ n = omega (arith, length-take n rest) in
     let parts : bytes ≡ (u32 n ++ take n rest) ++ drop n rest =
-        front.parts ∙ ap (λ (l : List ℕ). u32 n ++ l) (sym (take-append-drop n rest)) ∙ sym (append_assoc (u32 n) (take n rest) (drop n rest)) in
+    front.parts ∙ ap (λ (l : List ℕ). u32 n ++ l) (sym (take-append-drop n rest)) ∙ sym (append_assoc (u32 n) (take n rest) (drop n rest)) in
     subst (λ (y : List ℕ × List ℕ). Bodied bytes y.0 y.1) test.1
     (record {
       parts = parts ∙ ap (λ (m : ℕ). (u32 m ++ take n rest) ++ drop n rest) (sym long);
@@ -270,8 +269,8 @@ one_more : (rows : Rows) (place : ℕ) (bytes : List ℕ) (c : Change) (rest : L
     → record others { changes = c ∷ others.changes } ≡ contents → Stands (after rows c) (place + record_length c) rest others → Stands rows place (1 ∷ bytes) contents
 one_more rows place bytes c rest is_first others contents found same stands =
     let parts : 1 ∷ bytes ≡ records (c ∷ others.changes) ++ stands.gate ∷ stands.rest =
-        ap (λ (l : List ℕ). 1 ∷ l) (found.parts ∙ ap (λ (l : List ℕ). record_bytes c ++ l) stands.parts
-        ∙ sym (append_assoc (record_bytes c) (records others.changes) (stands.gate ∷ stands.rest))) in
+    ap (λ (l : List ℕ). 1 ∷ l) (found.parts ∙ ap (λ (l : List ℕ). record_bytes c ++ l) stands.parts
+    ∙ sym (append_assoc (record_bytes c) (records others.changes) (stands.gate ∷ stands.rest))) in
     subst (λ (k : Contents). Stands rows place (1 ∷ bytes) k) same
     (record {
       gate = stands.gate;

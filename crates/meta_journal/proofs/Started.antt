@@ -1,20 +1,18 @@
 -- A fresh disk was made a journal.
 use Rattle.std.proofs.Common.{◌≡◌, ℕ, ◌≤◌, Bool, true, false, List, [], refl, sym, ◌∙◌, ap}
 use Rattle.std.specs.Prelude.{Some, Result, Ok, Err}
-use Rattle.fam_disk.specs.Crash.{DiskState, IsSynced, LeavesOnly}
+use Rattle.fam_disk.specs.Crash.{DiskState}
 use Rattle.fam_disk.proofs.Moments.{weaker}
 use Rattle.fam_model.specs.declared.rows.Rows.{Rows}
 use Rattle.fam_model.specs.Rows.{common_rows}
 use Rattle.meta_journal.specs.Found.{IsReady}
 use Rattle.meta_journal.specs.Image.{IsImage}
 use Rattle.meta_journal.specs.Layout.{is_fresh}
-use Rattle.meta_journal.specs.Opened.{empty_journal, HasRowsOf, IsStarted, Makes, opened_bytes, Opens, OpensAs}
+use Rattle.meta_journal.specs.Opened.{empty_journal, HasRowsOf, Makes, opened_bytes, Opens, OpensAs}
 use Rattle.meta_journal.specs.Reading.{HasRows, no_changes}
 use Rattle.meta_journal.specs.declared.area.Area.TheVariants.{First}
 use Rattle.meta_journal.specs.declared.doubt.Doubt.TheVariants.{Nothing}
-use Rattle.meta_journal.specs.declared.starting.OpenFault.{OpenFault}
 use Rattle.meta_journal.specs.declared.starting.OpenFault.TheVariants.{DiskFault}
-use Rattle.meta_journal.specs.declared.starting.Started.{Started}
 use Rattle.meta_journal.proofs.Fresh.{blank_fresh, empty_image, fresh_reads, rows_of_fresh, short_fresh}
 use Rattle.meta_journal.proofs.Opening.{synced_has}
 
@@ -47,11 +45,11 @@ module _ (limit : ℕ) (low : 17 ≤ limit) (clear : Bool) (bytes : List ℕ) (r
       record {
         opens = made_opens (Ok x) makes;
         answers = record {
-              contents = no_changes;
-              reads = fresh_reads limit bytes fresh;
-              place = refl;
-              rows = sym common;
-              images = synced_has (IsImage limit 16 First Nothing []) new empty_journal makes.content makes.synced (empty_image limit low);
-              content = makes.content ∙ ap (λ (l : List ℕ). Some l) (sym same);
-            };
+          contents = no_changes;
+          reads = fresh_reads limit bytes fresh;
+          place = refl;
+          rows = sym common;
+          images = synced_has (IsImage limit 16 First Nothing []) new empty_journal makes.content makes.synced (empty_image limit low);
+          content = makes.content ∙ ap (λ (l : List ℕ). Some l) (sym same);
+        };
       }

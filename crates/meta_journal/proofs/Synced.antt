@@ -1,25 +1,25 @@
 -- Opening a journal once a sync was served.
 use Rattle.std.proofs.Common.{◌≡◌, ℕ, ◌<◌, ◌≤◌, Bool, true, false, List, [], ◌∷◌, ◌++◌, length, refl, sym, ◌∙◌, ap, subst, arith}
-use Rattle.std.specs.Prelude.{Option, Some, None, Result, Ok, Err, nat_le, option_map, if◌then◌else◌}
+use Rattle.std.specs.Prelude.{Option, Some, None, Result, Ok, Err, option_map, if◌then◌else◌}
 use Rattle.std.proofs.lemmas.Bool.Decides.{nat_tests}
 use Rattle.std.proofs.lemmas.List.{append-nil}
 use Rattle.fam_disk.specs.Crash.{DiskState, IsKept, IsSynced, IsTorn, Leaves, LeavesOnly, Passes, written}
-use Rattle.fam_disk.proofs.Moments.{goes_on, now_after, started, written_from}
+use Rattle.fam_disk.proofs.Moments.{goes_on, now_after, started}
 use Rattle.fam_model.specs.Rows.{common_rows}
 use Rattle.meta_journal.specs.Found.{header_in}
 use Rattle.meta_journal.specs.Image.{IsImage}
 use Rattle.meta_journal.specs.Layout.{area_bytes, area_in_use, area_start, has_header, is_first_version, is_fresh}
-use Rattle.meta_journal.specs.Opened.{Answers, AreBytes, HasRowsOf, IsRefused, IsSeen, IsStarted, Looks, opened_bytes, OpensAs, ReadsArea, StartsSynced}
-use Rattle.meta_journal.specs.Reading.{Contents, area_contents, is_missing, journal, on_disk}
+use Rattle.meta_journal.specs.Opened.{AreBytes, HasRowsOf, IsRefused, IsSeen, IsStarted, Looks, opened_bytes, OpensAs, ReadsArea, StartsSynced}
+use Rattle.meta_journal.specs.Reading.{area_contents, is_missing, journal}
 use Rattle.meta_journal.specs.declared.area.Area.{Area}
 use Rattle.meta_journal.specs.declared.doubt.Doubt.TheVariants.{Nothing}
 use Rattle.meta_journal.specs.declared.header.Header.{Header}
 use Rattle.meta_journal.specs.declared.starting.OpenFault.{OpenFault}
 use Rattle.meta_journal.specs.declared.starting.OpenFault.TheVariants.{Memory, DiskFault, Damaged}
 use Rattle.meta_journal.specs.declared.starting.Started.{Started}
-use Rattle.meta_journal.proofs.Opening.{after_sync, Anything, before_sync, behind_look, looks_only, looks_run, same_kept, synced_has}
+use Rattle.meta_journal.proofs.Opening.{after_sync, Anything, before_sync, behind_look, looks_only, same_kept, synced_has}
 use Rattle.meta_journal.proofs.Making.{one_step}
-use Rattle.meta_journal.proofs.TakenUp.{either_reads, either_rows, image_of, is_read, IsEither, IsRead, reads_as, Seen, Sums, sums, version_torn, version_written}
+use Rattle.meta_journal.proofs.TakenUp.{either_reads, either_rows, image_of, is_read, IsEither, reads_as, Seen, Sums, sums, version_torn, version_written}
 
 -- What a header says
 

@@ -1,19 +1,18 @@
 -- A journal that was read is what its disk holds, of either version.
-use Rattle.std.proofs.Common.{◌≡◌, ◌≢◌, ℕ, suc, ◌+◌, ◌-◌, ◌<◌, ◌≤◌, min, Bool, true, false, not, inl, inr, List, [], ◌∷◌, ◌++◌, length, take, drop, refl, sym, ◌∙◌, ap, subst, arith, length-append, length-take, length-drop}
-use Rattle.std.specs.Prelude.{Result, Ok, Err, nat_lt, nat_le, ◌==◌, ◌&&◌, slice_index, replicate}
-use Rattle.std.specs.Str.{bytes_eq}
+use Rattle.std.proofs.Common.{◌≡◌, ◌≢◌, ℕ, ◌+◌, ◌-◌, ◌<◌, ◌≤◌, min, Bool, true, false, inl, inr, List, [], ◌∷◌, length, take, drop, refl, sym, ◌∙◌, ap, subst, arith, length-append, length-take, length-drop}
+use Rattle.std.specs.Prelude.{Result, Ok, Err, ◌&&◌, slice_index, replicate}
 use Rattle.std.proofs.lemmas.Bool.{cases_eq}
 use Rattle.std.proofs.lemmas.Bool.Decides.{nat_tests}
 use Rattle.std.proofs.lemmas.List.{take_at, take-take, get_or_at, get_or-take, get_or-drop, drop-drop}
 use Rattle.std.proofs.lemmas.Slice.Eq.{bytes_eq-Decides}
 use Rattle.fam_disk.specs.Crash.{IsTorn, written}
-use Rattle.fam_disk.specs.Torn.{torn_same, torn_written}
+use Rattle.fam_disk.specs.Torn.{torn_written}
 use Rattle.fam_model.specs.declared.change.Change.{Change}
 use Rattle.fam_model.specs.declared.rows.Rows.{Rows}
 use Rattle.fam_model.specs.Journal.{rows_from, rows_of}
 use Rattle.fam_model.specs.Rows.{common_rows}
 use Rattle.meta_codec.proofs.Spelled.{IsBytes}
-use Rattle.meta_journal.specs.Image.{AreLawful, HasChanges, HasHeader, IsClosed, IsImage}
+use Rattle.meta_journal.specs.Image.{AreLawful, HasChanges, IsImage}
 use Rattle.meta_journal.specs.Layout.{part, Holds, stands_at, magic, has_header, is_fresh, is_first_version, area_in_use, area_start, area_bytes, disk_place, records, records_end}
 use Rattle.meta_journal.specs.Opened.{HasRowsOf}
 use Rattle.meta_journal.specs.Opening.{summed}
@@ -21,10 +20,10 @@ use Rattle.meta_journal.specs.Reading.{Contents, journal, area_contents, on_disk
 use Rattle.meta_journal.specs.declared.area.Area.{Area}
 use Rattle.meta_journal.specs.declared.doubt.Doubt.TheVariants.{Nothing}
 use Rattle.meta_journal.specs.declared.reading.Records.{Records}
-use Rattle.meta_journal.proofs.Adding.{rows_read, byte_below}
+use Rattle.meta_journal.proofs.Adding.{rows_read}
 use Rattle.meta_journal.proofs.Images.{start_place}
 use Rattle.meta_journal.proofs.Parts.{holds_above, holds_below, byte_is, holds_front}
-use Rattle.meta_journal.proofs.ReadBack.{Stands, stands_there, also_read}
+use Rattle.meta_journal.proofs.ReadBack.{stands_there}
 use Rattle.meta_journal.proofs.Settling.{byte_above, start_min}
 
 -- what was summed
@@ -113,12 +112,12 @@ is_read limit area is_first c contents low there fits read =
       room = omega (arith, s.place_is, size);
       lawful = s.lawful;
       has = record {
-            front = sym (take-take n (limit - 16) (drop start c) (omega (arith, size))) ∙ front;
-            end = record {
-                  inside = omega (arith, at, size);
-                  shut = λ is_open. s.shut (sym gate ∙ same_gate ∙ ap (λ (i : ℕ). slice_index c i) (sym at) ∙ is_open);
-                };
-          };
+        front = sym (take-take n (limit - 16) (drop start c) (omega (arith, size))) ∙ front;
+        end = record {
+          inside = omega (arith, at, size);
+          shut = λ is_open. s.shut (sym gate ∙ same_gate ∙ ap (λ (i : ℕ). slice_index c i) (sym at) ∙ is_open);
+        };
+      };
     }
 
 -- The version is written
@@ -132,9 +131,9 @@ area_kept limit area changes c d low has torn =
     record {
       front = holds_above (area_start limit area) 4 1 (records changes) c d has.front (omega (arith, start)) torn;
       end = record {
-            inside = omega (arith, has.end.inside, torn.no_shorter);
-            shut = λ is_open. has.end.shut (sym (byte_above at 4 1 c d (omega (arith, behind)) has.end.inside torn) ∙ is_open);
-          };
+        inside = omega (arith, has.end.inside, torn.no_shorter);
+        shut = λ is_open. has.end.shut (sym (byte_above at 4 1 c d (omega (arith, behind)) has.end.inside torn) ∙ is_open);
+      };
     }
 
 frame_kept : (c d : List ℕ) → HasFrame c → IsTorn 4 1 c d → HasFrame d
@@ -208,11 +207,12 @@ version_torn limit used area contents c d low either torn =
           let old : is_fresh d ≡ false = grind (arith, nat_tests, letter, many, torn.no_shorter) in
           let there : is_missing limit area d ≡ false = grind (arith, nat_tests, long limit area c either.seen.there, torn.no_shorter) in
           let version : is_first_version d ≡ true = grind (arith, nat_tests, first) in
-          let seen : Seen limit area true d = record { old = old; header = framed d frame; area_is = area_is; version = version; there = there } in
-          (contents,
-          reads_as limit area true d seen ∙ ap (λ (b : List ℕ). on_disk limit area (area_contents true b)) (same_area limit area c d (omega arith) torn)
-          ∙ ap (λ (r : Result Contents ℕ). on_disk limit area r) either.reads,
-          refl)
+          let seen : Seen limit area true d = record { old = old; header = framed d frame; area_is = area_is; version = version; there = there } in (
+            contents,
+            reads_as limit area true d seen ∙ ap (λ (b : List ℕ). on_disk limit area (area_contents true b)) (same_area limit area c d (omega arith) torn)
+                ∙ ap (λ (r : Result Contents ℕ). on_disk limit area r) either.reads,
+            refl,
+          )
       | inr second ↦ rows_of_image limit area contents d (second_image limit area contents d frame second area_is read)
     ]
 

@@ -1,8 +1,6 @@
 -- What opening a journal does to a disk.
-use Rattle.std.specs.Prelude.{◌≡◌, ◌≢◌, ◌↔◌, ℕ, ◌+◌, ◌<◌, ◌≤◌, false, true, List, [], ◌∷◌, ◌++◌, length, take, slice_index, Option, Some, Result, Ok, Err, OnOk, if◌then◌else◌}
+use Rattle.std.specs.Prelude.{◌≡◌, ℕ, ◌<◌, ◌≤◌, false, List, [], ◌∷◌, ◌++◌, length, slice_index, Some, Result, Ok, Err, OnOk, if◌then◌else◌}
 use Rattle.fam_disk.specs.Crash.{DiskState, IsKept, IsSynced, Leaves, LeavesOnly, Passes, written}
-use Rattle.fam_model.specs.declared.change.Change.{Change}
-use Rattle.fam_model.specs.declared.rows.Rows.{Rows}
 use Rattle.fam_model.specs.Journal.{rows_of}
 use Rattle.fam_model.specs.Rows.{common_rows}
 use Rattle.meta_journal.specs.Found.{header_in}
@@ -11,8 +9,6 @@ use Rattle.meta_journal.specs.Layout.{area_bytes, is_fresh, is_first_version}
 use Rattle.meta_journal.specs.Opening.{read_from}
 use Rattle.meta_journal.specs.Reading.{Contents, area_contents, journal, on_disk, HasRows}
 use Rattle.meta_journal.specs.declared.header.Header.{Header}
-use Rattle.meta_journal.specs.declared.reading.Records.{Records}
-use Rattle.meta_journal.specs.declared.area.Area.{Area}
 use Rattle.meta_journal.specs.declared.doubt.Doubt.TheVariants.{Nothing}
 use Rattle.meta_journal.specs.declared.starting.Started.{Started}
 use Rattle.meta_journal.specs.declared.starting.OpenFault.{OpenFault}

@@ -21,7 +21,11 @@ pub(crate) fn header_of(bytes: &[u8]) -> Option<Header>
     if is_header(bytes) {
         Some(Header {
             is_first_version: bytes[4] == 1,
-            area: if bytes[8] == 1 { Area::Second } else { Area::First },
+            area: if bytes[8] == 1 {
+                Area::Second
+            } else {
+                Area::First
+            },
         })
     } else {
         None

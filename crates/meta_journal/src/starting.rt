@@ -7,7 +7,6 @@ ghost use Rattle.fam_base.specs.Causes.{HasCause, Rose};
 ghost use Rattle.meta_journal.specs.Found.{IsBlank, IsFound, IsLong, IsReady, header_in};
 ghost use Rattle.meta_journal.specs.Layout.{area_start, is_fresh, part};
 ghost use Rattle.meta_journal.specs.Opened.{IsSeen, Looks, Makes, OpensAs, ReadsArea, StartsSynced};
-
 ghost use Rattle.meta_journal.specs.declared.starting.OpenFault.TheVariants.{Damaged, DiskFault};
 
 use crate::area::{Area, area_start as start_of_area, disk_place as place_on_disk};
@@ -121,7 +120,12 @@ fn read_header<D: Disk>(disk: &mut D) -> Result<Option<Header>, Failed>
 }
 
 /// So many bytes of a disk.
-fn read_part<D: Disk>(alloc: Global, disk: &mut D, at: u64, count: u64) -> Result<Vec<u8>, OpenFault>
+fn read_part<D: Disk>(
+    alloc: Global,
+    disk: &mut D,
+    at: u64,
+    count: u64,
+) -> Result<Vec<u8>, OpenFault>
     requires within { ForSome (D.state disk.old).content (λ bytes. at + count ≤ length bytes) }
     requires few { count ≤ 2 ^ 24 }
     ensures looks { Looks (D.state disk.old) (D.state disk.new) }
@@ -167,7 +171,11 @@ fn read_area<D: Disk>(
             rows,
         }),
         Err(Unread::Memory) => Err(OpenFault::Memory),
-        Err(Unread::Damaged(place)) => Err(OpenFault::Damaged(place_on_disk(limit, header.area, place))),
+        Err(Unread::Damaged(place)) => Err(OpenFault::Damaged(place_on_disk(
+            limit,
+            header.area,
+            place,
+        ))),
     }
 }
 
@@ -229,7 +237,12 @@ fn start_behind<D: Disk>(
 }
 
 /// Opens the journal of a disk that is not fresh.
-fn start_old<D: Disk>(alloc: Global, disk: &mut D, limit: u64, len: u64) -> Result<Started, OpenFault>
+fn start_old<D: Disk>(
+    alloc: Global,
+    disk: &mut D,
+    limit: u64,
+    len: u64,
+) -> Result<Started, OpenFault>
     requires low { 17 ≤ limit }
     requires high { limit ≤ 2 ^ 24 }
     requires long { 17 ≤ len }
@@ -248,7 +261,12 @@ fn start_old<D: Disk>(alloc: Global, disk: &mut D, limit: u64, len: u64) -> Resu
 }
 
 /// Opens the journal of a fresh disk.
-fn start_fresh<D: Disk>(alloc: Global, disk: &mut D, limit: u64, clear: bool) -> Result<Started, OpenFault>
+fn start_fresh<D: Disk>(
+    alloc: Global,
+    disk: &mut D,
+    limit: u64,
+    clear: bool,
+) -> Result<Started, OpenFault>
     requires low { 17 ≤ limit }
     requires ready { IfSome (D.state disk.old).content (IsReady clear) }
     ensures opens { IfSome (D.state disk.old).content (λ bytes. OpensAs limit bytes (D.state disk.old) (D.state disk.new) result) }

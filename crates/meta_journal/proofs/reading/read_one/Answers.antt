@@ -1,9 +1,9 @@
-use Rattle.std.proofs.Common.{◌≡◌, ℕ, ◌+◌, ◌-◌, List, length, ◌≤◌, take, drop, get_or, rules, arith, sym, ap, ◌∙◌}
+use Rattle.std.proofs.Common.{◌≡◌, ◌+◌, ◌-◌, length, ◌≤◌, take, drop, get_or, rules, arith, sym, ap, ◌∙◌}
 use Rattle.std.proofs.lemmas.Bool.Decides.{nat_tests}
 use Rattle.fam_model.specs.declared.rows.Rows.{Rows}
 use Rattle.meta_journal.specs.Opening.{read_from}
 use Rattle.meta_journal.specs.Reading.{change_at}
-use Rattle.meta_journal.proofs.ReadBack.{Taken, taken_at, found}
+use Rattle.meta_journal.proofs.ReadBack.{taken_at, found}
 use Rattle.meta_journal.proofs.reading.read_one.Goals as goal
 
 pub apply-requires-clause-change : goal.apply-requires-clause-change

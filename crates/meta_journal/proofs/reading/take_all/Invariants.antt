@@ -1,4 +1,4 @@
-use Rattle.std.proofs.Common.{◌≡◌, ◌≤◌, ◌+◌, ◌^◌, length}
+use Rattle.std.proofs.Common.{◌≡◌, ◌≤◌, ◌+◌, length}
 use Rattle.fam_model.specs.Rows.{IsLawful, common_rows}
 use Rattle.meta_journal.specs.Opening.{read_from}
 use Rattle.meta_journal.proofs.reading.take_all.Given as goal

@@ -1,4 +1,4 @@
-use Rattle.std.proofs.Common.{◌≡◌, ℕ, List, length, refl, sym, ◌∙◌, ap, subst, arith}
+use Rattle.std.proofs.Common.{◌≡◌, ℕ, List, refl, sym, ◌∙◌, ap, subst, arith}
 use Rattle.meta_journal.specs.Layout.{area_bytes}
 use Rattle.meta_journal.specs.Opened.{AreBytes}
 use Rattle.meta_journal.specs.Opening.{read_from}
@@ -24,9 +24,11 @@ returns-in-Ok-clause-found g c =
     let read = if_some content _ bytes told c.in_ok-bytes.ensures.bytes in
     let long = for_some content _ bytes told c.requires.len in
     let whole : c.as_slice.result.now ≡ area_bytes c.args.limit header.area bytes =
-        c.as_slice.ensures.value ∙ whole_area c.args.limit header.area bytes c.args.len _ _ _ c.area_start-start.ensures c.min.ensures long read in
-    (refl, subst AreBytes whole c.in-Ok.ensures.bytes,
-    ap (λ (l : List ℕ). read_from header.is_first_version common_rows 16 l) (sym whole) ∙ c.in-Ok.ensures.read))
+    c.as_slice.ensures.value ∙ whole_area c.args.limit header.area bytes c.args.len _ _ _ c.area_start-start.ensures c.min.ensures long read in (
+      refl,
+      subst AreBytes whole c.in-Ok.ensures.bytes,
+      ap (λ (l : List ℕ). read_from header.is_first_version common_rows 16 l) (sym whole) ∙ c.in-Ok.ensures.read,
+    ))
 
 pub returns-in-Ok-clause-room : goal.returns-in-Ok-clause-room
 returns-in-Ok-clause-room g c =

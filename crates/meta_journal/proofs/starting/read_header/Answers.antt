@@ -1,4 +1,4 @@
-use Rattle.std.proofs.Common.{◌≡◌, ℕ, List, take, drop, ap, ◌∙◌}
+use Rattle.std.proofs.Common.{ap, ◌∙◌}
 use Rattle.meta_journal.specs.Found.{header_in}
 use Rattle.meta_journal.proofs.HeaderFront.{header_front}
 use Rattle.meta_journal.proofs.Opening.{if_told}

@@ -1,4 +1,3 @@
-use Rattle.std.proofs.Common.{◌∙◌}
 use Rattle.meta_journal.specs.declared.starting.OpenFault.TheVariants.{Memory}
 use Rattle.meta_journal.proofs.Adding.{told_of}
 use Rattle.meta_journal.proofs.Opening.{if_told}

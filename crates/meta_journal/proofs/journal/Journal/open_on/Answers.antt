@@ -1,7 +1,4 @@
-use Rattle.std.proofs.Common.{◌≡◌, ℕ, List, sym, ◌∙◌}
-use Rattle.fam_disk.specs.Crash.{Leaves}
-use Rattle.meta_journal.specs.Image.{IsImage}
-use Rattle.meta_journal.specs.State.{changes_before}
+use Rattle.std.proofs.Common.{sym, ◌∙◌}
 use Rattle.meta_journal.specs.declared.doubt.Doubt.TheVariants.{Nothing}
 use Rattle.meta_journal.proofs.Adding.{known_acknowledged, sound_from, told_is, told_of}
 use Rattle.meta_journal.proofs.Opening.{if_told}
