@@ -1,9 +1,9 @@
 -- An image that fills in what is not certain is one that a crash may leave.
-use Rattle.std.proofs.Common.{◌≡◌, inl, inr, ⊎_elim, ℕ, ◌+◌, ◌-◌, ◌<◌, ◌≤◌, min, max, suc, List, [], ◌∷◌, ◌++◌, length, take, drop, map, replicate, refl, sym, ◌∙◌, ap, subst, arith, rules, append_assoc, length-append, length-take, length-drop}
+use Rattle.std.proofs.Common.{◌≡◌, inl, inr, ℕ, ◌+◌, ◌-◌, ◌<◌, ◌≤◌, min, max, suc, List, [], ◌∷◌, ◌++◌, length, take, drop, map, replicate, refl, sym, ◌∙◌, ap, subst, arith, append_assoc, length-append, length-take, length-drop}
 use Rattle.std.specs.Prelude.{◌⊎◌, Option, Some, None}
-use Rattle.std.proofs.lemmas.List.{take-append-drop, drop-drop, nil_from_length, length-replicate, take_at, take_all, take_min, drop_at, drop_all}
+use Rattle.std.proofs.lemmas.List.{take-append-drop, drop-drop, nil_from_length, length-replicate, take_at, take_min, drop_at, drop_all}
 use Rattle.std.proofs.lemmas.Bool.{cases_lt}
-use Rattle.fam_disk.specs.Crash.{IsTorn, written}
+use Rattle.fam_disk.specs.Crash.{IsTorn}
 use Rattle.fam_disk.specs.Known.{known_by, known_after, filled}
 use Rattle.fam_disk.specs.Replay.{content_by, images_by, images_after}
 use Rattle.fam_disk.specs.declared.call.DiskCall.{DiskCall}

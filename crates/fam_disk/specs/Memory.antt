@@ -1,13 +1,12 @@
 -- What contracts see of a disk in memory.
-use Rattle.std.specs.Prelude.{◌≡◌, ◌⊎◌, ℕ, List, [], ◌∷◌, ◌++◌, length, take, map, Option, Some, None, Result, OnOk, OnErr, unwrap_or, refl}
-use Rattle.std.proofs.Common.{arith, sym, subst, ◌∙◌}
+use Rattle.std.specs.Prelude.{◌≡◌, ◌⊎◌, ℕ, List, [], ◌∷◌, ◌++◌, length, take, map, Option, Some, Result, OnOk, OnErr, unwrap_or, refl}
+use Rattle.std.proofs.Common.{arith, sym, subst}
 use Rattle.std.proofs.lemmas.List.{take_all}
 use Rattle.fam_disk.specs.Crash.{DiskState}
 use Rattle.fam_disk.specs.Known.{known_after}
 use Rattle.fam_disk.specs.Replay.{content_after, images_after, sync_moments, content_is_image}
 use Rattle.fam_disk.specs.declared.memory.MemDisk.{MemDisk}
 use Rattle.fam_disk.specs.declared.call.DiskCall.{DiskCall}
-use Rattle.fam_disk.specs.declared.calls.AllCalls.{AllCalls}
 
 -- what a crash may leave at a moment of a disk that had these bytes first, and then these calls
 abbrev pub images_at : List ℕ → List DiskCall → ℕ → List ℕ → Type 0

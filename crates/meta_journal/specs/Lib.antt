@@ -1,6 +1,10 @@
+pub mod Found
 pub mod Image
 pub mod Laws
 pub mod Layout
+pub mod Opened
+pub mod OpenedJournal
+pub mod Opening
 pub mod Reading
 pub mod Settling
 pub mod Short

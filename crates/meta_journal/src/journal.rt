@@ -12,6 +12,7 @@ use std::alloc::Global;
 
 mod adding;
 mod appending;
+mod opening;
 mod reserving;
 mod settling;
 mod switching;

@@ -3,11 +3,14 @@
 
 mod area;
 mod doubt;
+mod header;
 mod journal;
 mod laws;
+mod reading;
 mod record;
 mod reserve;
 mod short_form;
+mod starting;
 
 pub use area::Area;
 pub use doubt::Doubt;
@@ -15,3 +18,4 @@ pub use journal::Journal;
 pub use laws::{
     lawful_changes_have_bodies, short_form_is_small, short_form_restores, worked_journals,
 };
+pub use starting::OpenFault;
