@@ -74,8 +74,8 @@ fn step(alloc: Global, ask: Ask) -> Result<Step, Fail> {
     })
 }
 
-fn shown(result: &Result<Event, CoreFault>) -> Shown {
-    match result {
+fn shown(answer: &Result<Event, CoreFault>) -> Shown {
+    match answer {
         Err(CoreFault::NotEnabled) => Shown::NotEnabled,
         Err(CoreFault::Memory) => Shown::NoMemory,
         Ok(event) => match &event.what {
