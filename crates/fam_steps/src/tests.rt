@@ -34,7 +34,7 @@ enum Shown {
     Else,
 }
 
-fn step(alloc: Global, ask: Ask) -> Result<Step, Fail> {
+fn asked_for(alloc: Global, ask: Ask) -> Result<Step, Fail> {
     Ok(match ask {
         Ask::Put => Step::Call {
             pe: PE,
@@ -74,7 +74,7 @@ fn step(alloc: Global, ask: Ask) -> Result<Step, Fail> {
     })
 }
 
-fn shown(answer: &Result<Event, CoreFault>) -> Shown {
+fn what_came(answer: &Result<Event, CoreFault>) -> Shown {
     match answer {
         Err(CoreFault::NotEnabled) => Shown::NotEnabled,
         Err(CoreFault::Memory) => Shown::NoMemory,
@@ -125,9 +125,9 @@ fn makes_what_may_come_and_refuses_the_rest(rt: HostRuntime) -> Result<(), Fail>
     let mut core = Core::new(alloc, service, &whos, rows)?;
     let mut made = 0;
     for (ask, wanted) in ROWS {
-        let asked = step(alloc, ask)?;
+        let asked = asked_for(alloc, ask)?;
         let result = core.apply(&asked);
-        let came = shown(&result);
+        let came = what_came(&result);
         assert_eq!(rt; came, wanted);
         if result.is_ok() {
             made += 1;

@@ -5,8 +5,6 @@
 #![tactic(auto)]
 
 mod audit;
-#[cfg(test)]
-mod bad_lines;
 mod command;
 mod ending;
 #[cfg(test)]
