@@ -11,34 +11,34 @@ use Rattle.meta_journal.proofs.starting.fill.Goals as goal
 
 pub returns-in_err-write_synced-clause-makes : goal.returns-in_err-write_synced-clause-makes
 returns-in_err-write_synced-clause-makes g c told =
-    let S0 = g.D.Disk.state c.args.disk.now in
-    let S1 = g.D.Disk.state c.write_synced.new.disk in
-    let bytes = told_is S0.content told in
-    let blank = if_some S0.content IsBlank bytes.0 bytes.1 c.requires in
+    let at_first = g.D.Disk.state c.args.disk.now in
+    let at_second = g.D.Disk.state c.write_synced.new.disk in
+    let bytes = told_is at_first.content told in
+    let blank = if_some at_first.content IsBlank bytes.0 bytes.1 c.requires in
     let failed = err_from_is_err_and c.from_residual.result c.from_residual.ensures.1 in
-    subst (λ (r : Result (Unit {0}) Failed). Makes S0 S1 r) (sym failed.1)
-    (fill_failed bytes.0 blank S0 S1 bytes.1 c.in_err-write_synced.ensures.crash failed.0 (c.in_err-write_synced.ensures.syncs told))
+    subst (λ (r : Result (Unit {0}) Failed). Makes at_first at_second r) (sym failed.1)
+    (fill_failed bytes.0 blank at_first at_second bytes.1 c.in_err-write_synced.ensures.crash failed.0 (c.in_err-write_synced.ensures.syncs told))
 
 pub returns-in_err-write_synced-2-clause-makes : goal.returns-in_err-write_synced-2-clause-makes
 returns-in_err-write_synced-2-clause-makes g c told =
-    let S0 = g.D.Disk.state c.args.disk.now in
-    let S1 = g.D.Disk.state c.write_synced.new.disk in
-    let S2 = g.D.Disk.state c.write_synced-2.new.disk in
-    let bytes = told_is S0.content told in
-    let blank = if_some S0.content IsBlank bytes.0 bytes.1 c.requires in
+    let at_first = g.D.Disk.state c.args.disk.now in
+    let at_second = g.D.Disk.state c.write_synced.new.disk in
+    let at_third = g.D.Disk.state c.write_synced-2.new.disk in
+    let bytes = told_is at_first.content told in
+    let blank = if_some at_first.content IsBlank bytes.0 bytes.1 c.requires in
     let first = c.in_ok-write_synced.ensures in
     let second = c.in_err-write_synced-2.ensures in
     let failed = err_from_is_err_and c.from_residual-in_err-write_synced-2.result c.from_residual-in_err-write_synced-2.ensures.1 in
-    subst (λ (r : Result (Unit {0}) Failed). Makes S0 S2 r) (sym failed.1)
-    (finish_failed bytes.0 blank S0 S1 bytes.1 first.crash first.synced first.written (first.syncs told) S2 second.crash failed.0 (second.syncs (first.crash.tells ∙ told)))
+    subst (λ (r : Result (Unit {0}) Failed). Makes at_first at_third r) (sym failed.1)
+    (finish_failed bytes.0 blank at_first at_second bytes.1 first.crash first.synced first.written (first.syncs told) at_third second.crash failed.0 (second.syncs (first.crash.tells ∙ told)))
 
 pub returns-clause-makes : goal.returns-clause-makes
 returns-clause-makes g c told =
-    let S0 = g.D.Disk.state c.args.disk.now in
-    let S1 = g.D.Disk.state c.write_synced.new.disk in
-    let S2 = g.D.Disk.state c.write_synced-2.new.disk in
-    let bytes = told_is S0.content told in
-    let blank = if_some S0.content IsBlank bytes.0 bytes.1 c.requires in
+    let at_first = g.D.Disk.state c.args.disk.now in
+    let at_second = g.D.Disk.state c.write_synced.new.disk in
+    let at_third = g.D.Disk.state c.write_synced-2.new.disk in
+    let bytes = told_is at_first.content told in
+    let blank = if_some at_first.content IsBlank bytes.0 bytes.1 c.requires in
     let first = c.in_ok-write_synced.ensures in
     let second = c.in_ok-write_synced-2.ensures in
-    finish_served bytes.0 blank S0 S1 bytes.1 first.crash first.synced first.written (first.syncs told) S2 second.crash tt (second.syncs (first.crash.tells ∙ told)) second.synced second.written
+    finish_served bytes.0 blank at_first at_second bytes.1 first.crash first.synced first.written (first.syncs told) at_third second.crash tt (second.syncs (first.crash.tells ∙ told)) second.synced second.written

@@ -7,25 +7,25 @@ use Rattle.meta_journal.proofs.starting.start.Goals as goal
 
 pub returns-in-Ok-Fresh-clause-opens : goal.returns-in-Ok-Fresh-clause-opens
 returns-in-Ok-Fresh-clause-opens g c =
-    let S0 = g.D.Disk.state c.args.disk.now in
-    let S1 = g.D.Disk.state c.look.new.disk in
-    let S2 = g.D.Disk.state c.start_fresh.new.disk in
+    let at_first = g.D.Disk.state c.args.disk.now in
+    let at_second = g.D.Disk.state c.look.new.disk in
+    let at_third = g.D.Disk.state c.start_fresh.new.disk in
     let looks = c.in-Ok-Fresh.ensures.looks in
-    if_told S0.content _ (λ bytes told.
-    opens_behind c.args.limit bytes S0 S1 S2 c.start_fresh.result told looks (if_some S1.content _ bytes (looks.content ∙ told) c.start_fresh.ensures.opens))
+    if_told at_first.content _ (λ bytes told.
+    opens_behind c.args.limit bytes at_first at_second at_third c.start_fresh.result told looks (if_some at_second.content _ bytes (looks.content ∙ told) c.start_fresh.ensures.opens))
 
 pub returns-in-Ok-Old-clause-opens : goal.returns-in-Ok-Old-clause-opens
 returns-in-Ok-Old-clause-opens g c =
-    let S0 = g.D.Disk.state c.args.disk.now in
-    let S1 = g.D.Disk.state c.look.new.disk in
-    let S2 = g.D.Disk.state c.start_old.new.disk in
+    let at_first = g.D.Disk.state c.args.disk.now in
+    let at_second = g.D.Disk.state c.look.new.disk in
+    let at_third = g.D.Disk.state c.start_old.new.disk in
     let looks = c.in-Ok-Old.ensures.looks in
-    if_told S0.content _ (λ bytes told.
-    opens_behind c.args.limit bytes S0 S1 S2 c.start_old.result told looks (if_some S1.content _ bytes (looks.content ∙ told) c.start_old.ensures.opens))
+    if_told at_first.content _ (λ bytes told.
+    opens_behind c.args.limit bytes at_first at_second at_third c.start_old.result told looks (if_some at_second.content _ bytes (looks.content ∙ told) c.start_old.ensures.opens))
 
 pub returns-in-Err-clause-opens : goal.returns-in-Err-clause-opens
 returns-in-Err-clause-opens g c =
-    let S0 = g.D.Disk.state c.args.disk.now in
-    let S1 = g.D.Disk.state c.look.new.disk in
+    let at_first = g.D.Disk.state c.args.disk.now in
+    let at_second = g.D.Disk.state c.look.new.disk in
     let looks = c.in-Err.ensures.looks in
-    if_told S0.content _ (λ bytes told. refused_before c.args.limit bytes S0 S1 DiskFault told looks.crash looks.syncs tt)
+    if_told at_first.content _ (λ bytes told. refused_before c.args.limit bytes at_first at_second DiskFault told looks.crash looks.syncs tt)

@@ -14,74 +14,74 @@ pub returns-in_err-make_room-clause-any_moment : goal.returns-in_err-make_room-c
 returns-in_err-make_room-clause-any_moment g c =
     let j = c.args.self.now in
     let D = g.D.Disk.state in
-    let S0 = D j.disk in
-    let S1 = D c.settle_doubt.new.self.disk in
-    let S2 = D c.make_room.new.self.disk in
+    let at_first = D j.disk in
+    let at_second = D c.settle_doubt.new.self.disk in
+    let at_third = D c.make_room.new.self.disk in
     let settled = c.settle_doubt.ensures in
     let room = c.make_room.ensures in
     let change = c.args.reserve.record.change in
     let A = acknowledged j in
-    room_so_far j.limit A j.doubt change S0 S1 S2 c.settle_doubt.new.self.limit (acknowledged c.settle_doubt.new.self) settled.same.limit (ap rows_of settled.acknowledged)
-    (settled_so_far j.limit A j.doubt change S0 S1 settled.any_moment) room.any_moment
+    room_so_far j.limit A j.doubt change at_first at_second at_third c.settle_doubt.new.self.limit (acknowledged c.settle_doubt.new.self) settled.same.limit (ap rows_of settled.acknowledged)
+    (settled_so_far j.limit A j.doubt change at_first at_second settled.any_moment) room.any_moment
 
 pub returns-in_err-add-clause-any_moment : goal.returns-in_err-add-clause-any_moment
 returns-in_err-add-clause-any_moment g c =
     let j = c.args.self.now in
     let D = g.D.Disk.state in
-    let S0 = D j.disk in
-    let S1 = D c.settle_doubt.new.self.disk in
-    let S2 = D c.make_room.new.self.disk in
-    let S3 = D c.add.new.self.disk in
+    let at_first = D j.disk in
+    let at_second = D c.settle_doubt.new.self.disk in
+    let at_third = D c.make_room.new.self.disk in
+    let at_fourth = D c.add.new.self.disk in
     let settled = c.settle_doubt.ensures in
     let room = c.make_room.ensures in
     let change = c.args.reserve.record.change in
     let A = acknowledged j in
-    let so_far = room_so_far j.limit A j.doubt change S0 S1 S2 c.settle_doubt.new.self.limit (acknowledged c.settle_doubt.new.self) settled.same.limit (ap rows_of settled.acknowledged)
-    (settled_so_far j.limit A j.doubt change S0 S1 settled.any_moment) room.any_moment in
-    added_so_far j.limit A j.doubt change S0 S2 S3 c.make_room.new.self.limit (acknowledged c.make_room.new.self) (room.limit ∙ settled.same.limit) (room.same_rows ∙ ap rows_of settled.acknowledged)
+    let so_far = room_so_far j.limit A j.doubt change at_first at_second at_third c.settle_doubt.new.self.limit (acknowledged c.settle_doubt.new.self) settled.same.limit (ap rows_of settled.acknowledged)
+    (settled_so_far j.limit A j.doubt change at_first at_second settled.any_moment) room.any_moment in
+    added_so_far j.limit A j.doubt change at_first at_third at_fourth c.make_room.new.self.limit (acknowledged c.make_room.new.self) (room.limit ∙ settled.same.limit) (room.same_rows ∙ ap rows_of settled.acknowledged)
     so_far c.add.ensures.any_moment
 
 pub returns-clause-any_moment : goal.returns-clause-any_moment
 returns-clause-any_moment g c =
     let j = c.args.self.now in
     let D = g.D.Disk.state in
-    let S0 = D j.disk in
-    let S1 = D c.settle_doubt.new.self.disk in
-    let S2 = D c.make_room.new.self.disk in
-    let S3 = D c.add.new.self.disk in
+    let at_first = D j.disk in
+    let at_second = D c.settle_doubt.new.self.disk in
+    let at_third = D c.make_room.new.self.disk in
+    let at_fourth = D c.add.new.self.disk in
     let settled = c.settle_doubt.ensures in
     let room = c.make_room.ensures in
     let change = c.args.reserve.record.change in
     let A = acknowledged j in
-    let so_far = room_so_far j.limit A j.doubt change S0 S1 S2 c.settle_doubt.new.self.limit (acknowledged c.settle_doubt.new.self) settled.same.limit (ap rows_of settled.acknowledged)
-    (settled_so_far j.limit A j.doubt change S0 S1 settled.any_moment) room.any_moment in
-    added_so_far j.limit A j.doubt change S0 S2 S3 c.make_room.new.self.limit (acknowledged c.make_room.new.self) (room.limit ∙ settled.same.limit) (room.same_rows ∙ ap rows_of settled.acknowledged)
+    let so_far = room_so_far j.limit A j.doubt change at_first at_second at_third c.settle_doubt.new.self.limit (acknowledged c.settle_doubt.new.self) settled.same.limit (ap rows_of settled.acknowledged)
+    (settled_so_far j.limit A j.doubt change at_first at_second settled.any_moment) room.any_moment in
+    added_so_far j.limit A j.doubt change at_first at_third at_fourth c.make_room.new.self.limit (acknowledged c.make_room.new.self) (room.limit ∙ settled.same.limit) (room.same_rows ∙ ap rows_of settled.acknowledged)
     so_far c.add.ensures.any_moment
 
 pub returns-in_err-make_room-clause-syncs : goal.returns-in_err-make_room-clause-syncs
 returns-in_err-make_room-clause-syncs g c =
     let D = g.D.Disk.state in
-    let S0 = D c.args.self.now.disk in
-    let S1 = D c.settle_doubt.new.self.disk in
-    let S2 = D c.make_room.new.self.disk in
-    more_syncs S0 S1 S2 c.settle_doubt.ensures.syncs c.settle_doubt.ensures.any_moment.tells c.make_room.ensures.syncs
+    let at_first = D c.args.self.now.disk in
+    let at_second = D c.settle_doubt.new.self.disk in
+    let at_third = D c.make_room.new.self.disk in
+    more_syncs at_first at_second at_third c.settle_doubt.ensures.syncs c.settle_doubt.ensures.any_moment.tells c.make_room.ensures.syncs
 
 pub returns-in_err-add-clause-syncs : goal.returns-in_err-add-clause-syncs
 returns-in_err-add-clause-syncs g c =
     let D = g.D.Disk.state in
-    let S0 = D c.args.self.now.disk in
-    let S1 = D c.settle_doubt.new.self.disk in
-    let S2 = D c.make_room.new.self.disk in
-    let S3 = D c.add.new.self.disk in
-    more_syncs S0 S2 S3 (more_syncs S0 S1 S2 c.settle_doubt.ensures.syncs c.settle_doubt.ensures.any_moment.tells c.make_room.ensures.syncs)
+    let at_first = D c.args.self.now.disk in
+    let at_second = D c.settle_doubt.new.self.disk in
+    let at_third = D c.make_room.new.self.disk in
+    let at_fourth = D c.add.new.self.disk in
+    more_syncs at_first at_third at_fourth (more_syncs at_first at_second at_third c.settle_doubt.ensures.syncs c.settle_doubt.ensures.any_moment.tells c.make_room.ensures.syncs)
     (c.make_room.ensures.any_moment.tells ∙ c.settle_doubt.ensures.any_moment.tells) c.add.ensures.syncs
 
 pub returns-clause-syncs : goal.returns-clause-syncs
 returns-clause-syncs g c =
     let D = g.D.Disk.state in
-    let S0 = D c.args.self.now.disk in
-    let S1 = D c.settle_doubt.new.self.disk in
-    let S2 = D c.make_room.new.self.disk in
-    let S3 = D c.add.new.self.disk in
-    more_syncs S0 S2 S3 (more_syncs S0 S1 S2 c.settle_doubt.ensures.syncs c.settle_doubt.ensures.any_moment.tells c.make_room.ensures.syncs)
+    let at_first = D c.args.self.now.disk in
+    let at_second = D c.settle_doubt.new.self.disk in
+    let at_third = D c.make_room.new.self.disk in
+    let at_fourth = D c.add.new.self.disk in
+    more_syncs at_first at_third at_fourth (more_syncs at_first at_second at_third c.settle_doubt.ensures.syncs c.settle_doubt.ensures.any_moment.tells c.make_room.ensures.syncs)
     (c.make_room.ensures.any_moment.tells ∙ c.settle_doubt.ensures.any_moment.tells) c.add.ensures.syncs

@@ -25,18 +25,18 @@ returns-in_err-write_synced-clause-sound g c =
     let other = short (rows_of A) in
     let bytes = short_bytes (rows_of A) in
     let D = g.D.Disk.state in
-    let S0 = D j.disk in
-    let S1 = D c.write_synced.new.disk in
+    let at_first = D j.disk in
+    let at_second = D c.write_synced.new.disk in
     let laws = g.met.D.Disk g.world.𝓛 g.world.𝓜 g.world.𝓡 ((λ s x. x), (λ x. x), (λ x. x), λ x. x) in
-    let room : IsSome S0.content → records_end other < j.limit = λ told. omega (arith, c.requires.room, ap length (c.requires.form told), length-append (records other) (0 ∷ [])) in
-    let was : Leaves S0 S0.moment (IsImage j.limit j.used j.area Nothing A) =
-    subst (λ (d : Doubt). Leaves S0 S0.moment (IsImage j.limit j.used j.area d A)) c.requires.settled c.requires.sound in
+    let room : IsSome at_first.content → records_end other < j.limit = λ told. omega (arith, c.requires.room, ap length (c.requires.form told), length-append (records other) (0 ∷ [])) in
+    let was : Leaves at_first at_first.moment (IsImage j.limit j.used j.area Nothing A) =
+    subst (λ (d : Doubt). Leaves at_first at_first.moment (IsImage j.limit j.used j.area d A)) c.requires.settled c.requires.sound in
     let start_is : c.area_start.result ≡ start_of j.limit (other_area j.area) = c.area_start.ensures ∙ ap (start_of j.limit) c.other_of-other.ensures in
-    let torn : IsSome S0.content → Passes (IsTorn (start_of j.limit (other_area j.area)) (length bytes)) S0 S1 = λ told.
-    subst (λ (i : ℕ). Passes (IsTorn i (length bytes)) S0 S1) start_is
-    (subst (λ (b : List ℕ). Passes (IsTorn c.area_start.result (length b)) S0 S1) (c.requires.form told) c.write_synced.ensures.crash) in
-    let failed = now_where_told (IsImage j.limit j.used j.area Nothing A) S0 S1 (laws.tells_content c.write_synced.new.disk) c.write_synced.ensures.crash.tells (λ told. form_failed j.limit j.used j.area A other (c.requires.restores told) (room told) S0 S1 S1 was (torn told)) in
-    sound_from S1 j.limit j.used j.area j.doubt A (laws.tells_content c.write_synced.new.disk) (laws.reads_image c.write_synced.new.disk) (subst (λ (d : Doubt). Leaves S1 S1.moment (IsImage j.limit j.used j.area d A)) (sym c.requires.settled) failed)
+    let torn : IsSome at_first.content → Passes (IsTorn (start_of j.limit (other_area j.area)) (length bytes)) at_first at_second = λ told.
+    subst (λ (i : ℕ). Passes (IsTorn i (length bytes)) at_first at_second) start_is
+    (subst (λ (b : List ℕ). Passes (IsTorn c.area_start.result (length b)) at_first at_second) (c.requires.form told) c.write_synced.ensures.crash) in
+    let failed = now_where_told (IsImage j.limit j.used j.area Nothing A) at_first at_second (laws.tells_content c.write_synced.new.disk) c.write_synced.ensures.crash.tells (λ told. form_failed j.limit j.used j.area A other (c.requires.restores told) (room told) at_first at_second at_second was (torn told)) in
+    sound_from at_second j.limit j.used j.area j.doubt A (laws.tells_content c.write_synced.new.disk) (laws.reads_image c.write_synced.new.disk) (subst (λ (d : Doubt). Leaves at_second at_second.moment (IsImage j.limit j.used j.area d A)) (sym c.requires.settled) failed)
 
 pub returns-in_err-write_synced-clause-same_rows : goal.returns-in_err-write_synced-clause-same_rows
 returns-in_err-write_synced-clause-same_rows g c =
@@ -45,18 +45,18 @@ returns-in_err-write_synced-clause-same_rows g c =
     let other = short (rows_of A) in
     let bytes = short_bytes (rows_of A) in
     let D = g.D.Disk.state in
-    let S0 = D j.disk in
-    let S1 = D c.write_synced.new.disk in
+    let at_first = D j.disk in
+    let at_second = D c.write_synced.new.disk in
     let laws = g.met.D.Disk g.world.𝓛 g.world.𝓜 g.world.𝓡 ((λ s x. x), (λ x. x), (λ x. x), λ x. x) in
-    let room : IsSome S0.content → records_end other < j.limit = λ told. omega (arith, c.requires.room, ap length (c.requires.form told), length-append (records other) (0 ∷ [])) in
-    let was : Leaves S0 S0.moment (IsImage j.limit j.used j.area Nothing A) =
-    subst (λ (d : Doubt). Leaves S0 S0.moment (IsImage j.limit j.used j.area d A)) c.requires.settled c.requires.sound in
+    let room : IsSome at_first.content → records_end other < j.limit = λ told. omega (arith, c.requires.room, ap length (c.requires.form told), length-append (records other) (0 ∷ [])) in
+    let was : Leaves at_first at_first.moment (IsImage j.limit j.used j.area Nothing A) =
+    subst (λ (d : Doubt). Leaves at_first at_first.moment (IsImage j.limit j.used j.area d A)) c.requires.settled c.requires.sound in
     let start_is : c.area_start.result ≡ start_of j.limit (other_area j.area) = c.area_start.ensures ∙ ap (start_of j.limit) c.other_of-other.ensures in
-    let torn : IsSome S0.content → Passes (IsTorn (start_of j.limit (other_area j.area)) (length bytes)) S0 S1 = λ told.
-    subst (λ (i : ℕ). Passes (IsTorn i (length bytes)) S0 S1) start_is
-    (subst (λ (b : List ℕ). Passes (IsTorn c.area_start.result (length b)) S0 S1) (c.requires.form told) c.write_synced.ensures.crash) in
-    let failed = now_where_told (IsImage j.limit j.used j.area Nothing A) S0 S1 (laws.tells_content c.write_synced.new.disk) c.write_synced.ensures.crash.tells (λ told. form_failed j.limit j.used j.area A other (c.requires.restores told) (room told) S0 S1 S1 was (torn told)) in
-    ap rows_of (still_acknowledged S0 S1 j.limit j.used j.area Nothing c.write_synced.ensures.crash.tells (laws.reads_image c.write_synced.new.disk) failed)
+    let torn : IsSome at_first.content → Passes (IsTorn (start_of j.limit (other_area j.area)) (length bytes)) at_first at_second = λ told.
+    subst (λ (i : ℕ). Passes (IsTorn i (length bytes)) at_first at_second) start_is
+    (subst (λ (b : List ℕ). Passes (IsTorn c.area_start.result (length b)) at_first at_second) (c.requires.form told) c.write_synced.ensures.crash) in
+    let failed = now_where_told (IsImage j.limit j.used j.area Nothing A) at_first at_second (laws.tells_content c.write_synced.new.disk) c.write_synced.ensures.crash.tells (λ told. form_failed j.limit j.used j.area A other (c.requires.restores told) (room told) at_first at_second at_second was (torn told)) in
+    ap rows_of (still_acknowledged at_first at_second j.limit j.used j.area Nothing c.write_synced.ensures.crash.tells (laws.reads_image c.write_synced.new.disk) failed)
 
 pub returns-in_err-write_synced-clause-any_moment : goal.returns-in_err-write_synced-clause-any_moment
 returns-in_err-write_synced-clause-any_moment g c =
@@ -65,17 +65,17 @@ returns-in_err-write_synced-clause-any_moment g c =
     let other = short (rows_of A) in
     let bytes = short_bytes (rows_of A) in
     let D = g.D.Disk.state in
-    let S0 = D j.disk in
-    let S1 = D c.write_synced.new.disk in
+    let at_first = D j.disk in
+    let at_second = D c.write_synced.new.disk in
     let laws = g.met.D.Disk g.world.𝓛 g.world.𝓜 g.world.𝓡 ((λ s x. x), (λ x. x), (λ x. x), λ x. x) in
-    let room : IsSome S0.content → records_end other < j.limit = λ told. omega (arith, c.requires.room, ap length (c.requires.form told), length-append (records other) (0 ∷ [])) in
-    let was : Leaves S0 S0.moment (IsImage j.limit j.used j.area Nothing A) =
-    subst (λ (d : Doubt). Leaves S0 S0.moment (IsImage j.limit j.used j.area d A)) c.requires.settled c.requires.sound in
+    let room : IsSome at_first.content → records_end other < j.limit = λ told. omega (arith, c.requires.room, ap length (c.requires.form told), length-append (records other) (0 ∷ [])) in
+    let was : Leaves at_first at_first.moment (IsImage j.limit j.used j.area Nothing A) =
+    subst (λ (d : Doubt). Leaves at_first at_first.moment (IsImage j.limit j.used j.area d A)) c.requires.settled c.requires.sound in
     let start_is : c.area_start.result ≡ start_of j.limit (other_area j.area) = c.area_start.ensures ∙ ap (start_of j.limit) c.other_of-other.ensures in
-    let torn : IsSome S0.content → Passes (IsTorn (start_of j.limit (other_area j.area)) (length bytes)) S0 S1 = λ told.
-    subst (λ (i : ℕ). Passes (IsTorn i (length bytes)) S0 S1) start_is
-    (subst (λ (b : List ℕ). Passes (IsTorn c.area_start.result (length b)) S0 S1) (c.requires.form told) c.write_synced.ensures.crash) in
-    where_told (HasRows j.limit (rows_of A)) S0 S1 (laws.tells_content c.write_synced.new.disk) c.write_synced.ensures.crash.tells (passing _ S0 S0 S1 (started (λ image. Unit {0}) S0 (λ image left. tt)) c.write_synced.ensures.crash) (λ told. form_moments j.limit j.used j.area A other (c.requires.restores told) (room told) S0 S1 S1 was (torn told))
+    let torn : IsSome at_first.content → Passes (IsTorn (start_of j.limit (other_area j.area)) (length bytes)) at_first at_second = λ told.
+    subst (λ (i : ℕ). Passes (IsTorn i (length bytes)) at_first at_second) start_is
+    (subst (λ (b : List ℕ). Passes (IsTorn c.area_start.result (length b)) at_first at_second) (c.requires.form told) c.write_synced.ensures.crash) in
+    where_told (HasRows j.limit (rows_of A)) at_first at_second (laws.tells_content c.write_synced.new.disk) c.write_synced.ensures.crash.tells (passing _ at_first at_first at_second (started (λ image. Unit {0}) at_first (λ image left. tt)) c.write_synced.ensures.crash) (λ told. form_moments j.limit j.used j.area A other (c.requires.restores told) (room told) at_first at_second at_second was (torn told))
 
 pub returns-in_err-write_synced-2-clause-sound : goal.returns-in_err-write_synced-2-clause-sound
 returns-in_err-write_synced-2-clause-sound g c =
@@ -84,28 +84,28 @@ returns-in_err-write_synced-2-clause-sound g c =
     let other = short (rows_of A) in
     let bytes = short_bytes (rows_of A) in
     let D = g.D.Disk.state in
-    let S0 = D j.disk in
-    let S1 = D c.write_synced.new.disk in
+    let at_first = D j.disk in
+    let at_second = D c.write_synced.new.disk in
     let laws = g.met.D.Disk g.world.𝓛 g.world.𝓜 g.world.𝓡 ((λ s x. x), (λ x. x), (λ x. x), λ x. x) in
-    let room : IsSome S0.content → records_end other < j.limit = λ told. omega (arith, c.requires.room, ap length (c.requires.form told), length-append (records other) (0 ∷ [])) in
-    let was : Leaves S0 S0.moment (IsImage j.limit j.used j.area Nothing A) =
-    subst (λ (d : Doubt). Leaves S0 S0.moment (IsImage j.limit j.used j.area d A)) c.requires.settled c.requires.sound in
+    let room : IsSome at_first.content → records_end other < j.limit = λ told. omega (arith, c.requires.room, ap length (c.requires.form told), length-append (records other) (0 ∷ [])) in
+    let was : Leaves at_first at_first.moment (IsImage j.limit j.used j.area Nothing A) =
+    subst (λ (d : Doubt). Leaves at_first at_first.moment (IsImage j.limit j.used j.area d A)) c.requires.settled c.requires.sound in
     let start_is : c.area_start.result ≡ start_of j.limit (other_area j.area) = c.area_start.ensures ∙ ap (start_of j.limit) c.other_of-other.ensures in
-    let torn : IsSome S0.content → Passes (IsTorn (start_of j.limit (other_area j.area)) (length bytes)) S0 S1 = λ told.
-    subst (λ (i : ℕ). Passes (IsTorn i (length bytes)) S0 S1) start_is
-    (subst (λ (b : List ℕ). Passes (IsTorn c.area_start.result (length b)) S0 S1) (c.requires.form told) c.write_synced.ensures.crash) in
-    let S2 = D c.write_synced-2.new.disk in
+    let torn : IsSome at_first.content → Passes (IsTorn (start_of j.limit (other_area j.area)) (length bytes)) at_first at_second = λ told.
+    subst (λ (i : ℕ). Passes (IsTorn i (length bytes)) at_first at_second) start_is
+    (subst (λ (b : List ℕ). Passes (IsTorn c.area_start.result (length b)) at_first at_second) (c.requires.form told) c.write_synced.ensures.crash) in
+    let at_third = D c.write_synced-2.new.disk in
     let tells = c.write_synced-2.ensures.crash.tells ∙ c.write_synced.ensures.crash.tells in
-    let content : IsSome S0.content → S1.content ≡ option_map (written (start_of j.limit (other_area j.area)) bytes) S0.content = λ told.
-    subst (λ (i : ℕ). S1.content ≡ option_map (written i bytes) S0.content) start_is
-    (subst (λ (b : List ℕ). S1.content ≡ option_map (written c.area_start.result b) S0.content) (c.requires.form told) c.in_ok-write_synced.ensures.written) in
-    let prepared = λ (told : IsSome S0.content). form_written j.limit j.used j.area A other (c.requires.restores told) (room told) S0 S1 S2
+    let content : IsSome at_first.content → at_second.content ≡ option_map (written (start_of j.limit (other_area j.area)) bytes) at_first.content = λ told.
+    subst (λ (i : ℕ). at_second.content ≡ option_map (written i bytes) at_first.content) start_is
+    (subst (λ (b : List ℕ). at_second.content ≡ option_map (written c.area_start.result b) at_first.content) (c.requires.form told) c.in_ok-write_synced.ensures.written) in
+    let prepared = λ (told : IsSome at_first.content). form_written j.limit j.used j.area A other (c.requires.restores told) (room told) at_first at_second at_third
     (laws.reads_image j.disk) was c.requires.reached c.in_ok-write_synced.ensures.synced (content told) in
-    let run = passing _ S0 S1 S2 (passing _ S0 S0 S1 (started (λ image. Unit {0}) S0 (λ image left. tt)) c.write_synced.ensures.crash) c.write_synced-2.ensures.crash in
-    let moments = λ (told : IsSome S0.content). turn_moments j.limit j.used j.area A other (c.requires.restores told) (room told) S0 S1 S2
-    (form_moments j.limit j.used j.area A other (c.requires.restores told) (room told) S0 S1 S2 was (torn told)) (prepared told) c.write_synced-2.ensures.crash in
-    let failed = now_where_told (IsImage j.limit j.used j.area OfArea A) S0 S2 (laws.tells_content c.write_synced-2.new.disk) tells (λ told. turn_failed j.limit j.used j.area A other (c.requires.restores told) (room told) S0 S1 S2 (prepared told) c.write_synced-2.ensures.crash) in
-    sound_from S2 j.limit j.used j.area OfArea A (laws.tells_content c.write_synced-2.new.disk) (laws.reads_image c.write_synced-2.new.disk) failed
+    let run = passing _ at_first at_second at_third (passing _ at_first at_first at_second (started (λ image. Unit {0}) at_first (λ image left. tt)) c.write_synced.ensures.crash) c.write_synced-2.ensures.crash in
+    let moments = λ (told : IsSome at_first.content). turn_moments j.limit j.used j.area A other (c.requires.restores told) (room told) at_first at_second at_third
+    (form_moments j.limit j.used j.area A other (c.requires.restores told) (room told) at_first at_second at_third was (torn told)) (prepared told) c.write_synced-2.ensures.crash in
+    let failed = now_where_told (IsImage j.limit j.used j.area OfArea A) at_first at_third (laws.tells_content c.write_synced-2.new.disk) tells (λ told. turn_failed j.limit j.used j.area A other (c.requires.restores told) (room told) at_first at_second at_third (prepared told) c.write_synced-2.ensures.crash) in
+    sound_from at_third j.limit j.used j.area OfArea A (laws.tells_content c.write_synced-2.new.disk) (laws.reads_image c.write_synced-2.new.disk) failed
 
 pub returns-in_err-write_synced-2-clause-same_rows : goal.returns-in_err-write_synced-2-clause-same_rows
 returns-in_err-write_synced-2-clause-same_rows g c =
@@ -114,28 +114,28 @@ returns-in_err-write_synced-2-clause-same_rows g c =
     let other = short (rows_of A) in
     let bytes = short_bytes (rows_of A) in
     let D = g.D.Disk.state in
-    let S0 = D j.disk in
-    let S1 = D c.write_synced.new.disk in
+    let at_first = D j.disk in
+    let at_second = D c.write_synced.new.disk in
     let laws = g.met.D.Disk g.world.𝓛 g.world.𝓜 g.world.𝓡 ((λ s x. x), (λ x. x), (λ x. x), λ x. x) in
-    let room : IsSome S0.content → records_end other < j.limit = λ told. omega (arith, c.requires.room, ap length (c.requires.form told), length-append (records other) (0 ∷ [])) in
-    let was : Leaves S0 S0.moment (IsImage j.limit j.used j.area Nothing A) =
-    subst (λ (d : Doubt). Leaves S0 S0.moment (IsImage j.limit j.used j.area d A)) c.requires.settled c.requires.sound in
+    let room : IsSome at_first.content → records_end other < j.limit = λ told. omega (arith, c.requires.room, ap length (c.requires.form told), length-append (records other) (0 ∷ [])) in
+    let was : Leaves at_first at_first.moment (IsImage j.limit j.used j.area Nothing A) =
+    subst (λ (d : Doubt). Leaves at_first at_first.moment (IsImage j.limit j.used j.area d A)) c.requires.settled c.requires.sound in
     let start_is : c.area_start.result ≡ start_of j.limit (other_area j.area) = c.area_start.ensures ∙ ap (start_of j.limit) c.other_of-other.ensures in
-    let torn : IsSome S0.content → Passes (IsTorn (start_of j.limit (other_area j.area)) (length bytes)) S0 S1 = λ told.
-    subst (λ (i : ℕ). Passes (IsTorn i (length bytes)) S0 S1) start_is
-    (subst (λ (b : List ℕ). Passes (IsTorn c.area_start.result (length b)) S0 S1) (c.requires.form told) c.write_synced.ensures.crash) in
-    let S2 = D c.write_synced-2.new.disk in
+    let torn : IsSome at_first.content → Passes (IsTorn (start_of j.limit (other_area j.area)) (length bytes)) at_first at_second = λ told.
+    subst (λ (i : ℕ). Passes (IsTorn i (length bytes)) at_first at_second) start_is
+    (subst (λ (b : List ℕ). Passes (IsTorn c.area_start.result (length b)) at_first at_second) (c.requires.form told) c.write_synced.ensures.crash) in
+    let at_third = D c.write_synced-2.new.disk in
     let tells = c.write_synced-2.ensures.crash.tells ∙ c.write_synced.ensures.crash.tells in
-    let content : IsSome S0.content → S1.content ≡ option_map (written (start_of j.limit (other_area j.area)) bytes) S0.content = λ told.
-    subst (λ (i : ℕ). S1.content ≡ option_map (written i bytes) S0.content) start_is
-    (subst (λ (b : List ℕ). S1.content ≡ option_map (written c.area_start.result b) S0.content) (c.requires.form told) c.in_ok-write_synced.ensures.written) in
-    let prepared = λ (told : IsSome S0.content). form_written j.limit j.used j.area A other (c.requires.restores told) (room told) S0 S1 S2
+    let content : IsSome at_first.content → at_second.content ≡ option_map (written (start_of j.limit (other_area j.area)) bytes) at_first.content = λ told.
+    subst (λ (i : ℕ). at_second.content ≡ option_map (written i bytes) at_first.content) start_is
+    (subst (λ (b : List ℕ). at_second.content ≡ option_map (written c.area_start.result b) at_first.content) (c.requires.form told) c.in_ok-write_synced.ensures.written) in
+    let prepared = λ (told : IsSome at_first.content). form_written j.limit j.used j.area A other (c.requires.restores told) (room told) at_first at_second at_third
     (laws.reads_image j.disk) was c.requires.reached c.in_ok-write_synced.ensures.synced (content told) in
-    let run = passing _ S0 S1 S2 (passing _ S0 S0 S1 (started (λ image. Unit {0}) S0 (λ image left. tt)) c.write_synced.ensures.crash) c.write_synced-2.ensures.crash in
-    let moments = λ (told : IsSome S0.content). turn_moments j.limit j.used j.area A other (c.requires.restores told) (room told) S0 S1 S2
-    (form_moments j.limit j.used j.area A other (c.requires.restores told) (room told) S0 S1 S2 was (torn told)) (prepared told) c.write_synced-2.ensures.crash in
-    let failed = now_where_told (IsImage j.limit j.used j.area OfArea A) S0 S2 (laws.tells_content c.write_synced-2.new.disk) tells (λ told. turn_failed j.limit j.used j.area A other (c.requires.restores told) (room told) S0 S1 S2 (prepared told) c.write_synced-2.ensures.crash) in
-    ap rows_of (still_acknowledged S0 S2 j.limit j.used j.area OfArea tells (laws.reads_image c.write_synced-2.new.disk) failed)
+    let run = passing _ at_first at_second at_third (passing _ at_first at_first at_second (started (λ image. Unit {0}) at_first (λ image left. tt)) c.write_synced.ensures.crash) c.write_synced-2.ensures.crash in
+    let moments = λ (told : IsSome at_first.content). turn_moments j.limit j.used j.area A other (c.requires.restores told) (room told) at_first at_second at_third
+    (form_moments j.limit j.used j.area A other (c.requires.restores told) (room told) at_first at_second at_third was (torn told)) (prepared told) c.write_synced-2.ensures.crash in
+    let failed = now_where_told (IsImage j.limit j.used j.area OfArea A) at_first at_third (laws.tells_content c.write_synced-2.new.disk) tells (λ told. turn_failed j.limit j.used j.area A other (c.requires.restores told) (room told) at_first at_second at_third (prepared told) c.write_synced-2.ensures.crash) in
+    ap rows_of (still_acknowledged at_first at_third j.limit j.used j.area OfArea tells (laws.reads_image c.write_synced-2.new.disk) failed)
 
 pub returns-in_err-write_synced-2-clause-any_moment : goal.returns-in_err-write_synced-2-clause-any_moment
 returns-in_err-write_synced-2-clause-any_moment g c =
@@ -144,27 +144,27 @@ returns-in_err-write_synced-2-clause-any_moment g c =
     let other = short (rows_of A) in
     let bytes = short_bytes (rows_of A) in
     let D = g.D.Disk.state in
-    let S0 = D j.disk in
-    let S1 = D c.write_synced.new.disk in
+    let at_first = D j.disk in
+    let at_second = D c.write_synced.new.disk in
     let laws = g.met.D.Disk g.world.𝓛 g.world.𝓜 g.world.𝓡 ((λ s x. x), (λ x. x), (λ x. x), λ x. x) in
-    let room : IsSome S0.content → records_end other < j.limit = λ told. omega (arith, c.requires.room, ap length (c.requires.form told), length-append (records other) (0 ∷ [])) in
-    let was : Leaves S0 S0.moment (IsImage j.limit j.used j.area Nothing A) =
-    subst (λ (d : Doubt). Leaves S0 S0.moment (IsImage j.limit j.used j.area d A)) c.requires.settled c.requires.sound in
+    let room : IsSome at_first.content → records_end other < j.limit = λ told. omega (arith, c.requires.room, ap length (c.requires.form told), length-append (records other) (0 ∷ [])) in
+    let was : Leaves at_first at_first.moment (IsImage j.limit j.used j.area Nothing A) =
+    subst (λ (d : Doubt). Leaves at_first at_first.moment (IsImage j.limit j.used j.area d A)) c.requires.settled c.requires.sound in
     let start_is : c.area_start.result ≡ start_of j.limit (other_area j.area) = c.area_start.ensures ∙ ap (start_of j.limit) c.other_of-other.ensures in
-    let torn : IsSome S0.content → Passes (IsTorn (start_of j.limit (other_area j.area)) (length bytes)) S0 S1 = λ told.
-    subst (λ (i : ℕ). Passes (IsTorn i (length bytes)) S0 S1) start_is
-    (subst (λ (b : List ℕ). Passes (IsTorn c.area_start.result (length b)) S0 S1) (c.requires.form told) c.write_synced.ensures.crash) in
-    let S2 = D c.write_synced-2.new.disk in
+    let torn : IsSome at_first.content → Passes (IsTorn (start_of j.limit (other_area j.area)) (length bytes)) at_first at_second = λ told.
+    subst (λ (i : ℕ). Passes (IsTorn i (length bytes)) at_first at_second) start_is
+    (subst (λ (b : List ℕ). Passes (IsTorn c.area_start.result (length b)) at_first at_second) (c.requires.form told) c.write_synced.ensures.crash) in
+    let at_third = D c.write_synced-2.new.disk in
     let tells = c.write_synced-2.ensures.crash.tells ∙ c.write_synced.ensures.crash.tells in
-    let content : IsSome S0.content → S1.content ≡ option_map (written (start_of j.limit (other_area j.area)) bytes) S0.content = λ told.
-    subst (λ (i : ℕ). S1.content ≡ option_map (written i bytes) S0.content) start_is
-    (subst (λ (b : List ℕ). S1.content ≡ option_map (written c.area_start.result b) S0.content) (c.requires.form told) c.in_ok-write_synced.ensures.written) in
-    let prepared = λ (told : IsSome S0.content). form_written j.limit j.used j.area A other (c.requires.restores told) (room told) S0 S1 S2
+    let content : IsSome at_first.content → at_second.content ≡ option_map (written (start_of j.limit (other_area j.area)) bytes) at_first.content = λ told.
+    subst (λ (i : ℕ). at_second.content ≡ option_map (written i bytes) at_first.content) start_is
+    (subst (λ (b : List ℕ). at_second.content ≡ option_map (written c.area_start.result b) at_first.content) (c.requires.form told) c.in_ok-write_synced.ensures.written) in
+    let prepared = λ (told : IsSome at_first.content). form_written j.limit j.used j.area A other (c.requires.restores told) (room told) at_first at_second at_third
     (laws.reads_image j.disk) was c.requires.reached c.in_ok-write_synced.ensures.synced (content told) in
-    let run = passing _ S0 S1 S2 (passing _ S0 S0 S1 (started (λ image. Unit {0}) S0 (λ image left. tt)) c.write_synced.ensures.crash) c.write_synced-2.ensures.crash in
-    let moments = λ (told : IsSome S0.content). turn_moments j.limit j.used j.area A other (c.requires.restores told) (room told) S0 S1 S2
-    (form_moments j.limit j.used j.area A other (c.requires.restores told) (room told) S0 S1 S2 was (torn told)) (prepared told) c.write_synced-2.ensures.crash in
-    where_told (HasRows j.limit (rows_of A)) S0 S2 (laws.tells_content c.write_synced-2.new.disk) tells run moments
+    let run = passing _ at_first at_second at_third (passing _ at_first at_first at_second (started (λ image. Unit {0}) at_first (λ image left. tt)) c.write_synced.ensures.crash) c.write_synced-2.ensures.crash in
+    let moments = λ (told : IsSome at_first.content). turn_moments j.limit j.used j.area A other (c.requires.restores told) (room told) at_first at_second at_third
+    (form_moments j.limit j.used j.area A other (c.requires.restores told) (room told) at_first at_second at_third was (torn told)) (prepared told) c.write_synced-2.ensures.crash in
+    where_told (HasRows j.limit (rows_of A)) at_first at_third (laws.tells_content c.write_synced-2.new.disk) tells run moments
 
 pub returns-clause-sound : goal.returns-clause-sound
 returns-clause-sound g c =
@@ -173,37 +173,37 @@ returns-clause-sound g c =
     let other = short (rows_of A) in
     let bytes = short_bytes (rows_of A) in
     let D = g.D.Disk.state in
-    let S0 = D j.disk in
-    let S1 = D c.write_synced.new.disk in
+    let at_first = D j.disk in
+    let at_second = D c.write_synced.new.disk in
     let laws = g.met.D.Disk g.world.𝓛 g.world.𝓜 g.world.𝓡 ((λ s x. x), (λ x. x), (λ x. x), λ x. x) in
-    let room : IsSome S0.content → records_end other < j.limit = λ told. omega (arith, c.requires.room, ap length (c.requires.form told), length-append (records other) (0 ∷ [])) in
-    let was : Leaves S0 S0.moment (IsImage j.limit j.used j.area Nothing A) =
-    subst (λ (d : Doubt). Leaves S0 S0.moment (IsImage j.limit j.used j.area d A)) c.requires.settled c.requires.sound in
+    let room : IsSome at_first.content → records_end other < j.limit = λ told. omega (arith, c.requires.room, ap length (c.requires.form told), length-append (records other) (0 ∷ [])) in
+    let was : Leaves at_first at_first.moment (IsImage j.limit j.used j.area Nothing A) =
+    subst (λ (d : Doubt). Leaves at_first at_first.moment (IsImage j.limit j.used j.area d A)) c.requires.settled c.requires.sound in
     let start_is : c.area_start.result ≡ start_of j.limit (other_area j.area) = c.area_start.ensures ∙ ap (start_of j.limit) c.other_of-other.ensures in
-    let torn : IsSome S0.content → Passes (IsTorn (start_of j.limit (other_area j.area)) (length bytes)) S0 S1 = λ told.
-    subst (λ (i : ℕ). Passes (IsTorn i (length bytes)) S0 S1) start_is
-    (subst (λ (b : List ℕ). Passes (IsTorn c.area_start.result (length b)) S0 S1) (c.requires.form told) c.write_synced.ensures.crash) in
-    let S2 = D c.write_synced-2.new.disk in
+    let torn : IsSome at_first.content → Passes (IsTorn (start_of j.limit (other_area j.area)) (length bytes)) at_first at_second = λ told.
+    subst (λ (i : ℕ). Passes (IsTorn i (length bytes)) at_first at_second) start_is
+    (subst (λ (b : List ℕ). Passes (IsTorn c.area_start.result (length b)) at_first at_second) (c.requires.form told) c.write_synced.ensures.crash) in
+    let at_third = D c.write_synced-2.new.disk in
     let tells = c.write_synced-2.ensures.crash.tells ∙ c.write_synced.ensures.crash.tells in
-    let content : IsSome S0.content → S1.content ≡ option_map (written (start_of j.limit (other_area j.area)) bytes) S0.content = λ told.
-    subst (λ (i : ℕ). S1.content ≡ option_map (written i bytes) S0.content) start_is
-    (subst (λ (b : List ℕ). S1.content ≡ option_map (written c.area_start.result b) S0.content) (c.requires.form told) c.in_ok-write_synced.ensures.written) in
-    let prepared = λ (told : IsSome S0.content). form_written j.limit j.used j.area A other (c.requires.restores told) (room told) S0 S1 S2
+    let content : IsSome at_first.content → at_second.content ≡ option_map (written (start_of j.limit (other_area j.area)) bytes) at_first.content = λ told.
+    subst (λ (i : ℕ). at_second.content ≡ option_map (written i bytes) at_first.content) start_is
+    (subst (λ (b : List ℕ). at_second.content ≡ option_map (written c.area_start.result b) at_first.content) (c.requires.form told) c.in_ok-write_synced.ensures.written) in
+    let prepared = λ (told : IsSome at_first.content). form_written j.limit j.used j.area A other (c.requires.restores told) (room told) at_first at_second at_third
     (laws.reads_image j.disk) was c.requires.reached c.in_ok-write_synced.ensures.synced (content told) in
-    let run = passing _ S0 S1 S2 (passing _ S0 S0 S1 (started (λ image. Unit {0}) S0 (λ image left. tt)) c.write_synced.ensures.crash) c.write_synced-2.ensures.crash in
-    let moments = λ (told : IsSome S0.content). turn_moments j.limit j.used j.area A other (c.requires.restores told) (room told) S0 S1 S2
-    (form_moments j.limit j.used j.area A other (c.requires.restores told) (room told) S0 S1 S2 was (torn told)) (prepared told) c.write_synced-2.ensures.crash in
+    let run = passing _ at_first at_second at_third (passing _ at_first at_first at_second (started (λ image. Unit {0}) at_first (λ image left. tt)) c.write_synced.ensures.crash) c.write_synced-2.ensures.crash in
+    let moments = λ (told : IsSome at_first.content). turn_moments j.limit j.used j.area A other (c.requires.restores told) (room told) at_first at_second at_third
+    (form_moments j.limit j.used j.area A other (c.requires.restores told) (room told) at_first at_second at_third was (torn told)) (prepared told) c.write_synced-2.ensures.crash in
     let byte_is : c.byte_of.result ≡ area_byte (other_area j.area) = c.byte_of.ensures ∙ ap area_byte c.other_of-other.ensures in
-    let turned : S2.content ≡ option_map (written 8 (area_byte (other_area j.area) ∷ [])) S1.content =
-    subst (λ (b : ℕ). S2.content ≡ option_map (written 8 (b ∷ [])) S1.content) byte_is c.in_ok-write_synced-2.ensures.written in
-    let size : IsSome S0.content → records_end other ≡ 15 + length c.args.form.now = λ told.
+    let turned : at_third.content ≡ option_map (written 8 (area_byte (other_area j.area) ∷ [])) at_second.content =
+    subst (λ (b : ℕ). at_third.content ≡ option_map (written 8 (b ∷ [])) at_second.content) byte_is c.in_ok-write_synced-2.ensures.written in
+    let size : IsSome at_first.content → records_end other ≡ 15 + length c.args.form.now = λ told.
     omega (arith, ap length (c.requires.form told), length-append (records other) (0 ∷ [])) in
-    let done = λ (told : IsSome S0.content).
-    subst (λ (a : Area). Leaves S2 S2.moment (IsImage j.limit (15 + length c.args.form.now) a Nothing other)) (sym c.other_of-other.ensures)
-    (subst (λ (n : ℕ). Leaves S2 S2.moment (IsImage j.limit n (other_area j.area) Nothing other)) (size told)
-    (turn_written j.limit j.used j.area A other (c.requires.restores told) (room told) S0 S1 S2 (laws.reads_image c.write_synced.new.disk) (prepared told) c.in_ok-write_synced-2.ensures.synced turned)) in
-    sound_from S2 j.limit (15 + length c.args.form.now) c.other_of-other.result Nothing other (laws.tells_content c.write_synced-2.new.disk) (laws.reads_image c.write_synced-2.new.disk)
-    (now_where_told (IsImage j.limit (15 + length c.args.form.now) c.other_of-other.result Nothing other) S0 S2 (laws.tells_content c.write_synced-2.new.disk) tells done)
+    let done = λ (told : IsSome at_first.content).
+    subst (λ (a : Area). Leaves at_third at_third.moment (IsImage j.limit (15 + length c.args.form.now) a Nothing other)) (sym c.other_of-other.ensures)
+    (subst (λ (n : ℕ). Leaves at_third at_third.moment (IsImage j.limit n (other_area j.area) Nothing other)) (size told)
+    (turn_written j.limit j.used j.area A other (c.requires.restores told) (room told) at_first at_second at_third (laws.reads_image c.write_synced.new.disk) (prepared told) c.in_ok-write_synced-2.ensures.synced turned)) in
+    sound_from at_third j.limit (15 + length c.args.form.now) c.other_of-other.result Nothing other (laws.tells_content c.write_synced-2.new.disk) (laws.reads_image c.write_synced-2.new.disk)
+    (now_where_told (IsImage j.limit (15 + length c.args.form.now) c.other_of-other.result Nothing other) at_first at_third (laws.tells_content c.write_synced-2.new.disk) tells done)
 
 pub returns-clause-same_rows : goal.returns-clause-same_rows
 returns-clause-same_rows g c =
@@ -212,36 +212,36 @@ returns-clause-same_rows g c =
     let other = short (rows_of A) in
     let bytes = short_bytes (rows_of A) in
     let D = g.D.Disk.state in
-    let S0 = D j.disk in
-    let S1 = D c.write_synced.new.disk in
+    let at_first = D j.disk in
+    let at_second = D c.write_synced.new.disk in
     let laws = g.met.D.Disk g.world.𝓛 g.world.𝓜 g.world.𝓡 ((λ s x. x), (λ x. x), (λ x. x), λ x. x) in
-    let room : IsSome S0.content → records_end other < j.limit = λ told. omega (arith, c.requires.room, ap length (c.requires.form told), length-append (records other) (0 ∷ [])) in
-    let was : Leaves S0 S0.moment (IsImage j.limit j.used j.area Nothing A) =
-    subst (λ (d : Doubt). Leaves S0 S0.moment (IsImage j.limit j.used j.area d A)) c.requires.settled c.requires.sound in
+    let room : IsSome at_first.content → records_end other < j.limit = λ told. omega (arith, c.requires.room, ap length (c.requires.form told), length-append (records other) (0 ∷ [])) in
+    let was : Leaves at_first at_first.moment (IsImage j.limit j.used j.area Nothing A) =
+    subst (λ (d : Doubt). Leaves at_first at_first.moment (IsImage j.limit j.used j.area d A)) c.requires.settled c.requires.sound in
     let start_is : c.area_start.result ≡ start_of j.limit (other_area j.area) = c.area_start.ensures ∙ ap (start_of j.limit) c.other_of-other.ensures in
-    let torn : IsSome S0.content → Passes (IsTorn (start_of j.limit (other_area j.area)) (length bytes)) S0 S1 = λ told.
-    subst (λ (i : ℕ). Passes (IsTorn i (length bytes)) S0 S1) start_is
-    (subst (λ (b : List ℕ). Passes (IsTorn c.area_start.result (length b)) S0 S1) (c.requires.form told) c.write_synced.ensures.crash) in
-    let S2 = D c.write_synced-2.new.disk in
+    let torn : IsSome at_first.content → Passes (IsTorn (start_of j.limit (other_area j.area)) (length bytes)) at_first at_second = λ told.
+    subst (λ (i : ℕ). Passes (IsTorn i (length bytes)) at_first at_second) start_is
+    (subst (λ (b : List ℕ). Passes (IsTorn c.area_start.result (length b)) at_first at_second) (c.requires.form told) c.write_synced.ensures.crash) in
+    let at_third = D c.write_synced-2.new.disk in
     let tells = c.write_synced-2.ensures.crash.tells ∙ c.write_synced.ensures.crash.tells in
-    let content : IsSome S0.content → S1.content ≡ option_map (written (start_of j.limit (other_area j.area)) bytes) S0.content = λ told.
-    subst (λ (i : ℕ). S1.content ≡ option_map (written i bytes) S0.content) start_is
-    (subst (λ (b : List ℕ). S1.content ≡ option_map (written c.area_start.result b) S0.content) (c.requires.form told) c.in_ok-write_synced.ensures.written) in
-    let prepared = λ (told : IsSome S0.content). form_written j.limit j.used j.area A other (c.requires.restores told) (room told) S0 S1 S2
+    let content : IsSome at_first.content → at_second.content ≡ option_map (written (start_of j.limit (other_area j.area)) bytes) at_first.content = λ told.
+    subst (λ (i : ℕ). at_second.content ≡ option_map (written i bytes) at_first.content) start_is
+    (subst (λ (b : List ℕ). at_second.content ≡ option_map (written c.area_start.result b) at_first.content) (c.requires.form told) c.in_ok-write_synced.ensures.written) in
+    let prepared = λ (told : IsSome at_first.content). form_written j.limit j.used j.area A other (c.requires.restores told) (room told) at_first at_second at_third
     (laws.reads_image j.disk) was c.requires.reached c.in_ok-write_synced.ensures.synced (content told) in
-    let run = passing _ S0 S1 S2 (passing _ S0 S0 S1 (started (λ image. Unit {0}) S0 (λ image left. tt)) c.write_synced.ensures.crash) c.write_synced-2.ensures.crash in
-    let moments = λ (told : IsSome S0.content). turn_moments j.limit j.used j.area A other (c.requires.restores told) (room told) S0 S1 S2
-    (form_moments j.limit j.used j.area A other (c.requires.restores told) (room told) S0 S1 S2 was (torn told)) (prepared told) c.write_synced-2.ensures.crash in
+    let run = passing _ at_first at_second at_third (passing _ at_first at_first at_second (started (λ image. Unit {0}) at_first (λ image left. tt)) c.write_synced.ensures.crash) c.write_synced-2.ensures.crash in
+    let moments = λ (told : IsSome at_first.content). turn_moments j.limit j.used j.area A other (c.requires.restores told) (room told) at_first at_second at_third
+    (form_moments j.limit j.used j.area A other (c.requires.restores told) (room told) at_first at_second at_third was (torn told)) (prepared told) c.write_synced-2.ensures.crash in
     let byte_is : c.byte_of.result ≡ area_byte (other_area j.area) = c.byte_of.ensures ∙ ap area_byte c.other_of-other.ensures in
-    let turned : S2.content ≡ option_map (written 8 (area_byte (other_area j.area) ∷ [])) S1.content =
-    subst (λ (b : ℕ). S2.content ≡ option_map (written 8 (b ∷ [])) S1.content) byte_is c.in_ok-write_synced-2.ensures.written in
-    let size : IsSome S0.content → records_end other ≡ 15 + length c.args.form.now = λ told.
+    let turned : at_third.content ≡ option_map (written 8 (area_byte (other_area j.area) ∷ [])) at_second.content =
+    subst (λ (b : ℕ). at_third.content ≡ option_map (written 8 (b ∷ [])) at_second.content) byte_is c.in_ok-write_synced-2.ensures.written in
+    let size : IsSome at_first.content → records_end other ≡ 15 + length c.args.form.now = λ told.
     omega (arith, ap length (c.requires.form told), length-append (records other) (0 ∷ [])) in
-    let done = λ (told : IsSome S0.content).
-    subst (λ (a : Area). Leaves S2 S2.moment (IsImage j.limit (15 + length c.args.form.now) a Nothing other)) (sym c.other_of-other.ensures)
-    (subst (λ (n : ℕ). Leaves S2 S2.moment (IsImage j.limit n (other_area j.area) Nothing other)) (size told)
-    (turn_written j.limit j.used j.area A other (c.requires.restores told) (room told) S0 S1 S2 (laws.reads_image c.write_synced.new.disk) (prepared told) c.in_ok-write_synced-2.ensures.synced turned)) in
-    same_rows S0 S2 j.limit j.used (15 + length c.args.form.now) j.area c.other_of-other.result Nothing other tells (laws.reads_image c.write_synced-2.new.disk) (λ told. (c.requires.restores told).same_rows) done
+    let done = λ (told : IsSome at_first.content).
+    subst (λ (a : Area). Leaves at_third at_third.moment (IsImage j.limit (15 + length c.args.form.now) a Nothing other)) (sym c.other_of-other.ensures)
+    (subst (λ (n : ℕ). Leaves at_third at_third.moment (IsImage j.limit n (other_area j.area) Nothing other)) (size told)
+    (turn_written j.limit j.used j.area A other (c.requires.restores told) (room told) at_first at_second at_third (laws.reads_image c.write_synced.new.disk) (prepared told) c.in_ok-write_synced-2.ensures.synced turned)) in
+    same_rows at_first at_third j.limit j.used (15 + length c.args.form.now) j.area c.other_of-other.result Nothing other tells (laws.reads_image c.write_synced-2.new.disk) (λ told. (c.requires.restores told).same_rows) done
 
 pub returns-clause-any_moment : goal.returns-clause-any_moment
 returns-clause-any_moment g c =
@@ -250,27 +250,27 @@ returns-clause-any_moment g c =
     let other = short (rows_of A) in
     let bytes = short_bytes (rows_of A) in
     let D = g.D.Disk.state in
-    let S0 = D j.disk in
-    let S1 = D c.write_synced.new.disk in
+    let at_first = D j.disk in
+    let at_second = D c.write_synced.new.disk in
     let laws = g.met.D.Disk g.world.𝓛 g.world.𝓜 g.world.𝓡 ((λ s x. x), (λ x. x), (λ x. x), λ x. x) in
-    let room : IsSome S0.content → records_end other < j.limit = λ told. omega (arith, c.requires.room, ap length (c.requires.form told), length-append (records other) (0 ∷ [])) in
-    let was : Leaves S0 S0.moment (IsImage j.limit j.used j.area Nothing A) =
-    subst (λ (d : Doubt). Leaves S0 S0.moment (IsImage j.limit j.used j.area d A)) c.requires.settled c.requires.sound in
+    let room : IsSome at_first.content → records_end other < j.limit = λ told. omega (arith, c.requires.room, ap length (c.requires.form told), length-append (records other) (0 ∷ [])) in
+    let was : Leaves at_first at_first.moment (IsImage j.limit j.used j.area Nothing A) =
+    subst (λ (d : Doubt). Leaves at_first at_first.moment (IsImage j.limit j.used j.area d A)) c.requires.settled c.requires.sound in
     let start_is : c.area_start.result ≡ start_of j.limit (other_area j.area) = c.area_start.ensures ∙ ap (start_of j.limit) c.other_of-other.ensures in
-    let torn : IsSome S0.content → Passes (IsTorn (start_of j.limit (other_area j.area)) (length bytes)) S0 S1 = λ told.
-    subst (λ (i : ℕ). Passes (IsTorn i (length bytes)) S0 S1) start_is
-    (subst (λ (b : List ℕ). Passes (IsTorn c.area_start.result (length b)) S0 S1) (c.requires.form told) c.write_synced.ensures.crash) in
-    let S2 = D c.write_synced-2.new.disk in
+    let torn : IsSome at_first.content → Passes (IsTorn (start_of j.limit (other_area j.area)) (length bytes)) at_first at_second = λ told.
+    subst (λ (i : ℕ). Passes (IsTorn i (length bytes)) at_first at_second) start_is
+    (subst (λ (b : List ℕ). Passes (IsTorn c.area_start.result (length b)) at_first at_second) (c.requires.form told) c.write_synced.ensures.crash) in
+    let at_third = D c.write_synced-2.new.disk in
     let tells = c.write_synced-2.ensures.crash.tells ∙ c.write_synced.ensures.crash.tells in
-    let content : IsSome S0.content → S1.content ≡ option_map (written (start_of j.limit (other_area j.area)) bytes) S0.content = λ told.
-    subst (λ (i : ℕ). S1.content ≡ option_map (written i bytes) S0.content) start_is
-    (subst (λ (b : List ℕ). S1.content ≡ option_map (written c.area_start.result b) S0.content) (c.requires.form told) c.in_ok-write_synced.ensures.written) in
-    let prepared = λ (told : IsSome S0.content). form_written j.limit j.used j.area A other (c.requires.restores told) (room told) S0 S1 S2
+    let content : IsSome at_first.content → at_second.content ≡ option_map (written (start_of j.limit (other_area j.area)) bytes) at_first.content = λ told.
+    subst (λ (i : ℕ). at_second.content ≡ option_map (written i bytes) at_first.content) start_is
+    (subst (λ (b : List ℕ). at_second.content ≡ option_map (written c.area_start.result b) at_first.content) (c.requires.form told) c.in_ok-write_synced.ensures.written) in
+    let prepared = λ (told : IsSome at_first.content). form_written j.limit j.used j.area A other (c.requires.restores told) (room told) at_first at_second at_third
     (laws.reads_image j.disk) was c.requires.reached c.in_ok-write_synced.ensures.synced (content told) in
-    let run = passing _ S0 S1 S2 (passing _ S0 S0 S1 (started (λ image. Unit {0}) S0 (λ image left. tt)) c.write_synced.ensures.crash) c.write_synced-2.ensures.crash in
-    let moments = λ (told : IsSome S0.content). turn_moments j.limit j.used j.area A other (c.requires.restores told) (room told) S0 S1 S2
-    (form_moments j.limit j.used j.area A other (c.requires.restores told) (room told) S0 S1 S2 was (torn told)) (prepared told) c.write_synced-2.ensures.crash in
-    where_told (HasRows j.limit (rows_of A)) S0 S2 (laws.tells_content c.write_synced-2.new.disk) tells run moments
+    let run = passing _ at_first at_second at_third (passing _ at_first at_first at_second (started (λ image. Unit {0}) at_first (λ image left. tt)) c.write_synced.ensures.crash) c.write_synced-2.ensures.crash in
+    let moments = λ (told : IsSome at_first.content). turn_moments j.limit j.used j.area A other (c.requires.restores told) (room told) at_first at_second at_third
+    (form_moments j.limit j.used j.area A other (c.requires.restores told) (room told) at_first at_second at_third was (torn told)) (prepared told) c.write_synced-2.ensures.crash in
+    where_told (HasRows j.limit (rows_of A)) at_first at_third (laws.tells_content c.write_synced-2.new.disk) tells run moments
 
 pub returns-in_err-write_synced-clause-acknowledged : goal.returns-in_err-write_synced-clause-acknowledged
 returns-in_err-write_synced-clause-acknowledged g c =
@@ -279,18 +279,18 @@ returns-in_err-write_synced-clause-acknowledged g c =
     let other = short (rows_of A) in
     let bytes = short_bytes (rows_of A) in
     let D = g.D.Disk.state in
-    let S0 = D j.disk in
-    let S1 = D c.write_synced.new.disk in
+    let at_first = D j.disk in
+    let at_second = D c.write_synced.new.disk in
     let laws = g.met.D.Disk g.world.𝓛 g.world.𝓜 g.world.𝓡 ((λ s x. x), (λ x. x), (λ x. x), λ x. x) in
-    let room : IsSome S0.content → records_end other < j.limit = λ told. omega (arith, c.requires.room, ap length (c.requires.form told), length-append (records other) (0 ∷ [])) in
-    let was : Leaves S0 S0.moment (IsImage j.limit j.used j.area Nothing A) =
-    subst (λ (d : Doubt). Leaves S0 S0.moment (IsImage j.limit j.used j.area d A)) c.requires.settled c.requires.sound in
+    let room : IsSome at_first.content → records_end other < j.limit = λ told. omega (arith, c.requires.room, ap length (c.requires.form told), length-append (records other) (0 ∷ [])) in
+    let was : Leaves at_first at_first.moment (IsImage j.limit j.used j.area Nothing A) =
+    subst (λ (d : Doubt). Leaves at_first at_first.moment (IsImage j.limit j.used j.area d A)) c.requires.settled c.requires.sound in
     let start_is : c.area_start.result ≡ start_of j.limit (other_area j.area) = c.area_start.ensures ∙ ap (start_of j.limit) c.other_of-other.ensures in
-    let torn : IsSome S0.content → Passes (IsTorn (start_of j.limit (other_area j.area)) (length bytes)) S0 S1 = λ told.
-    subst (λ (i : ℕ). Passes (IsTorn i (length bytes)) S0 S1) start_is
-    (subst (λ (b : List ℕ). Passes (IsTorn c.area_start.result (length b)) S0 S1) (c.requires.form told) c.write_synced.ensures.crash) in
-    let failed = now_where_told (IsImage j.limit j.used j.area Nothing A) S0 S1 (laws.tells_content c.write_synced.new.disk) c.write_synced.ensures.crash.tells (λ told. form_failed j.limit j.used j.area A other (c.requires.restores told) (room told) S0 S1 S1 was (torn told)) in
-    on_err _ (still_acknowledged S0 S1 j.limit j.used j.area Nothing c.write_synced.ensures.crash.tells (laws.reads_image c.write_synced.new.disk) failed)
+    let torn : IsSome at_first.content → Passes (IsTorn (start_of j.limit (other_area j.area)) (length bytes)) at_first at_second = λ told.
+    subst (λ (i : ℕ). Passes (IsTorn i (length bytes)) at_first at_second) start_is
+    (subst (λ (b : List ℕ). Passes (IsTorn c.area_start.result (length b)) at_first at_second) (c.requires.form told) c.write_synced.ensures.crash) in
+    let failed = now_where_told (IsImage j.limit j.used j.area Nothing A) at_first at_second (laws.tells_content c.write_synced.new.disk) c.write_synced.ensures.crash.tells (λ told. form_failed j.limit j.used j.area A other (c.requires.restores told) (room told) at_first at_second at_second was (torn told)) in
+    on_err _ (still_acknowledged at_first at_second j.limit j.used j.area Nothing c.write_synced.ensures.crash.tells (laws.reads_image c.write_synced.new.disk) failed)
 
 pub returns-in_err-write_synced-2-clause-acknowledged : goal.returns-in_err-write_synced-2-clause-acknowledged
 returns-in_err-write_synced-2-clause-acknowledged g c =
@@ -299,28 +299,28 @@ returns-in_err-write_synced-2-clause-acknowledged g c =
     let other = short (rows_of A) in
     let bytes = short_bytes (rows_of A) in
     let D = g.D.Disk.state in
-    let S0 = D j.disk in
-    let S1 = D c.write_synced.new.disk in
+    let at_first = D j.disk in
+    let at_second = D c.write_synced.new.disk in
     let laws = g.met.D.Disk g.world.𝓛 g.world.𝓜 g.world.𝓡 ((λ s x. x), (λ x. x), (λ x. x), λ x. x) in
-    let room : IsSome S0.content → records_end other < j.limit = λ told. omega (arith, c.requires.room, ap length (c.requires.form told), length-append (records other) (0 ∷ [])) in
-    let was : Leaves S0 S0.moment (IsImage j.limit j.used j.area Nothing A) =
-    subst (λ (d : Doubt). Leaves S0 S0.moment (IsImage j.limit j.used j.area d A)) c.requires.settled c.requires.sound in
+    let room : IsSome at_first.content → records_end other < j.limit = λ told. omega (arith, c.requires.room, ap length (c.requires.form told), length-append (records other) (0 ∷ [])) in
+    let was : Leaves at_first at_first.moment (IsImage j.limit j.used j.area Nothing A) =
+    subst (λ (d : Doubt). Leaves at_first at_first.moment (IsImage j.limit j.used j.area d A)) c.requires.settled c.requires.sound in
     let start_is : c.area_start.result ≡ start_of j.limit (other_area j.area) = c.area_start.ensures ∙ ap (start_of j.limit) c.other_of-other.ensures in
-    let torn : IsSome S0.content → Passes (IsTorn (start_of j.limit (other_area j.area)) (length bytes)) S0 S1 = λ told.
-    subst (λ (i : ℕ). Passes (IsTorn i (length bytes)) S0 S1) start_is
-    (subst (λ (b : List ℕ). Passes (IsTorn c.area_start.result (length b)) S0 S1) (c.requires.form told) c.write_synced.ensures.crash) in
-    let S2 = D c.write_synced-2.new.disk in
+    let torn : IsSome at_first.content → Passes (IsTorn (start_of j.limit (other_area j.area)) (length bytes)) at_first at_second = λ told.
+    subst (λ (i : ℕ). Passes (IsTorn i (length bytes)) at_first at_second) start_is
+    (subst (λ (b : List ℕ). Passes (IsTorn c.area_start.result (length b)) at_first at_second) (c.requires.form told) c.write_synced.ensures.crash) in
+    let at_third = D c.write_synced-2.new.disk in
     let tells = c.write_synced-2.ensures.crash.tells ∙ c.write_synced.ensures.crash.tells in
-    let content : IsSome S0.content → S1.content ≡ option_map (written (start_of j.limit (other_area j.area)) bytes) S0.content = λ told.
-    subst (λ (i : ℕ). S1.content ≡ option_map (written i bytes) S0.content) start_is
-    (subst (λ (b : List ℕ). S1.content ≡ option_map (written c.area_start.result b) S0.content) (c.requires.form told) c.in_ok-write_synced.ensures.written) in
-    let prepared = λ (told : IsSome S0.content). form_written j.limit j.used j.area A other (c.requires.restores told) (room told) S0 S1 S2
+    let content : IsSome at_first.content → at_second.content ≡ option_map (written (start_of j.limit (other_area j.area)) bytes) at_first.content = λ told.
+    subst (λ (i : ℕ). at_second.content ≡ option_map (written i bytes) at_first.content) start_is
+    (subst (λ (b : List ℕ). at_second.content ≡ option_map (written c.area_start.result b) at_first.content) (c.requires.form told) c.in_ok-write_synced.ensures.written) in
+    let prepared = λ (told : IsSome at_first.content). form_written j.limit j.used j.area A other (c.requires.restores told) (room told) at_first at_second at_third
     (laws.reads_image j.disk) was c.requires.reached c.in_ok-write_synced.ensures.synced (content told) in
-    let run = passing _ S0 S1 S2 (passing _ S0 S0 S1 (started (λ image. Unit {0}) S0 (λ image left. tt)) c.write_synced.ensures.crash) c.write_synced-2.ensures.crash in
-    let moments = λ (told : IsSome S0.content). turn_moments j.limit j.used j.area A other (c.requires.restores told) (room told) S0 S1 S2
-    (form_moments j.limit j.used j.area A other (c.requires.restores told) (room told) S0 S1 S2 was (torn told)) (prepared told) c.write_synced-2.ensures.crash in
-    let failed = now_where_told (IsImage j.limit j.used j.area OfArea A) S0 S2 (laws.tells_content c.write_synced-2.new.disk) tells (λ told. turn_failed j.limit j.used j.area A other (c.requires.restores told) (room told) S0 S1 S2 (prepared told) c.write_synced-2.ensures.crash) in
-    on_err _ (still_acknowledged S0 S2 j.limit j.used j.area OfArea tells (laws.reads_image c.write_synced-2.new.disk) failed)
+    let run = passing _ at_first at_second at_third (passing _ at_first at_first at_second (started (λ image. Unit {0}) at_first (λ image left. tt)) c.write_synced.ensures.crash) c.write_synced-2.ensures.crash in
+    let moments = λ (told : IsSome at_first.content). turn_moments j.limit j.used j.area A other (c.requires.restores told) (room told) at_first at_second at_third
+    (form_moments j.limit j.used j.area A other (c.requires.restores told) (room told) at_first at_second at_third was (torn told)) (prepared told) c.write_synced-2.ensures.crash in
+    let failed = now_where_told (IsImage j.limit j.used j.area OfArea A) at_first at_third (laws.tells_content c.write_synced-2.new.disk) tells (λ told. turn_failed j.limit j.used j.area A other (c.requires.restores told) (room told) at_first at_second at_third (prepared told) c.write_synced-2.ensures.crash) in
+    on_err _ (still_acknowledged at_first at_third j.limit j.used j.area OfArea tells (laws.reads_image c.write_synced-2.new.disk) failed)
 
 pub returns-clause-shortened : goal.returns-clause-shortened
 returns-clause-shortened g c told =
@@ -329,57 +329,57 @@ returns-clause-shortened g c told =
     let other = short (rows_of A) in
     let bytes = short_bytes (rows_of A) in
     let D = g.D.Disk.state in
-    let S0 = D j.disk in
-    let S1 = D c.write_synced.new.disk in
+    let at_first = D j.disk in
+    let at_second = D c.write_synced.new.disk in
     let laws = g.met.D.Disk g.world.𝓛 g.world.𝓜 g.world.𝓡 ((λ s x. x), (λ x. x), (λ x. x), λ x. x) in
-    let room : IsSome S0.content → records_end other < j.limit = λ told. omega (arith, c.requires.room, ap length (c.requires.form told), length-append (records other) (0 ∷ [])) in
-    let was : Leaves S0 S0.moment (IsImage j.limit j.used j.area Nothing A) =
-    subst (λ (d : Doubt). Leaves S0 S0.moment (IsImage j.limit j.used j.area d A)) c.requires.settled c.requires.sound in
+    let room : IsSome at_first.content → records_end other < j.limit = λ told. omega (arith, c.requires.room, ap length (c.requires.form told), length-append (records other) (0 ∷ [])) in
+    let was : Leaves at_first at_first.moment (IsImage j.limit j.used j.area Nothing A) =
+    subst (λ (d : Doubt). Leaves at_first at_first.moment (IsImage j.limit j.used j.area d A)) c.requires.settled c.requires.sound in
     let start_is : c.area_start.result ≡ start_of j.limit (other_area j.area) = c.area_start.ensures ∙ ap (start_of j.limit) c.other_of-other.ensures in
-    let torn : IsSome S0.content → Passes (IsTorn (start_of j.limit (other_area j.area)) (length bytes)) S0 S1 = λ told.
-    subst (λ (i : ℕ). Passes (IsTorn i (length bytes)) S0 S1) start_is
-    (subst (λ (b : List ℕ). Passes (IsTorn c.area_start.result (length b)) S0 S1) (c.requires.form told) c.write_synced.ensures.crash) in
-    let S2 = D c.write_synced-2.new.disk in
+    let torn : IsSome at_first.content → Passes (IsTorn (start_of j.limit (other_area j.area)) (length bytes)) at_first at_second = λ told.
+    subst (λ (i : ℕ). Passes (IsTorn i (length bytes)) at_first at_second) start_is
+    (subst (λ (b : List ℕ). Passes (IsTorn c.area_start.result (length b)) at_first at_second) (c.requires.form told) c.write_synced.ensures.crash) in
+    let at_third = D c.write_synced-2.new.disk in
     let tells = c.write_synced-2.ensures.crash.tells ∙ c.write_synced.ensures.crash.tells in
-    let content : IsSome S0.content → S1.content ≡ option_map (written (start_of j.limit (other_area j.area)) bytes) S0.content = λ told.
-    subst (λ (i : ℕ). S1.content ≡ option_map (written i bytes) S0.content) start_is
-    (subst (λ (b : List ℕ). S1.content ≡ option_map (written c.area_start.result b) S0.content) (c.requires.form told) c.in_ok-write_synced.ensures.written) in
-    let prepared = λ (told : IsSome S0.content). form_written j.limit j.used j.area A other (c.requires.restores told) (room told) S0 S1 S2
+    let content : IsSome at_first.content → at_second.content ≡ option_map (written (start_of j.limit (other_area j.area)) bytes) at_first.content = λ told.
+    subst (λ (i : ℕ). at_second.content ≡ option_map (written i bytes) at_first.content) start_is
+    (subst (λ (b : List ℕ). at_second.content ≡ option_map (written c.area_start.result b) at_first.content) (c.requires.form told) c.in_ok-write_synced.ensures.written) in
+    let prepared = λ (told : IsSome at_first.content). form_written j.limit j.used j.area A other (c.requires.restores told) (room told) at_first at_second at_third
     (laws.reads_image j.disk) was c.requires.reached c.in_ok-write_synced.ensures.synced (content told) in
-    let run = passing _ S0 S1 S2 (passing _ S0 S0 S1 (started (λ image. Unit {0}) S0 (λ image left. tt)) c.write_synced.ensures.crash) c.write_synced-2.ensures.crash in
-    let moments = λ (told : IsSome S0.content). turn_moments j.limit j.used j.area A other (c.requires.restores told) (room told) S0 S1 S2
-    (form_moments j.limit j.used j.area A other (c.requires.restores told) (room told) S0 S1 S2 was (torn told)) (prepared told) c.write_synced-2.ensures.crash in
+    let run = passing _ at_first at_second at_third (passing _ at_first at_first at_second (started (λ image. Unit {0}) at_first (λ image left. tt)) c.write_synced.ensures.crash) c.write_synced-2.ensures.crash in
+    let moments = λ (told : IsSome at_first.content). turn_moments j.limit j.used j.area A other (c.requires.restores told) (room told) at_first at_second at_third
+    (form_moments j.limit j.used j.area A other (c.requires.restores told) (room told) at_first at_second at_third was (torn told)) (prepared told) c.write_synced-2.ensures.crash in
     let byte_is : c.byte_of.result ≡ area_byte (other_area j.area) = c.byte_of.ensures ∙ ap area_byte c.other_of-other.ensures in
-    let turned : S2.content ≡ option_map (written 8 (area_byte (other_area j.area) ∷ [])) S1.content =
-    subst (λ (b : ℕ). S2.content ≡ option_map (written 8 (b ∷ [])) S1.content) byte_is c.in_ok-write_synced-2.ensures.written in
-    let size : IsSome S0.content → records_end other ≡ 15 + length c.args.form.now = λ told.
+    let turned : at_third.content ≡ option_map (written 8 (area_byte (other_area j.area) ∷ [])) at_second.content =
+    subst (λ (b : ℕ). at_third.content ≡ option_map (written 8 (b ∷ [])) at_second.content) byte_is c.in_ok-write_synced-2.ensures.written in
+    let size : IsSome at_first.content → records_end other ≡ 15 + length c.args.form.now = λ told.
     omega (arith, ap length (c.requires.form told), length-append (records other) (0 ∷ [])) in
-    let done = λ (told : IsSome S0.content).
-    subst (λ (a : Area). Leaves S2 S2.moment (IsImage j.limit (15 + length c.args.form.now) a Nothing other)) (sym c.other_of-other.ensures)
-    (subst (λ (n : ℕ). Leaves S2 S2.moment (IsImage j.limit n (other_area j.area) Nothing other)) (size told)
-    (turn_written j.limit j.used j.area A other (c.requires.restores told) (room told) S0 S1 S2 (laws.reads_image c.write_synced.new.disk) (prepared told) c.in_ok-write_synced-2.ensures.synced turned)) in
-    known_acknowledged S2 j.limit (15 + length c.args.form.now) c.other_of-other.result Nothing other (laws.reads_image c.write_synced-2.new.disk) (done told) (tells ∙ told)
+    let done = λ (told : IsSome at_first.content).
+    subst (λ (a : Area). Leaves at_third at_third.moment (IsImage j.limit (15 + length c.args.form.now) a Nothing other)) (sym c.other_of-other.ensures)
+    (subst (λ (n : ℕ). Leaves at_third at_third.moment (IsImage j.limit n (other_area j.area) Nothing other)) (size told)
+    (turn_written j.limit j.used j.area A other (c.requires.restores told) (room told) at_first at_second at_third (laws.reads_image c.write_synced.new.disk) (prepared told) c.in_ok-write_synced-2.ensures.synced turned)) in
+    known_acknowledged at_third j.limit (15 + length c.args.form.now) c.other_of-other.result Nothing other (laws.reads_image c.write_synced-2.new.disk) (done told) (tells ∙ told)
 
 pub returns-in_err-write_synced-clause-syncs : goal.returns-in_err-write_synced-clause-syncs
 returns-in_err-write_synced-clause-syncs g c =
     let D = g.D.Disk.state in
-    let S0 = D c.args.self.now.disk in
-    one_sync S0 (D c.write_synced.new.disk) c.write_synced.result c.write_synced.ensures.syncs
+    let at_first = D c.args.self.now.disk in
+    one_sync at_first (D c.write_synced.new.disk) c.write_synced.result c.write_synced.ensures.syncs
 
 pub returns-in_err-write_synced-2-clause-syncs : goal.returns-in_err-write_synced-2-clause-syncs
 returns-in_err-write_synced-2-clause-syncs g c =
     let D = g.D.Disk.state in
-    let S0 = D c.args.self.now.disk in
-    let S1 = D c.write_synced.new.disk in
-    let S2 = D c.write_synced-2.new.disk in
-    more_syncs S0 S1 S2 (one_sync S0 S1 c.write_synced.result c.write_synced.ensures.syncs) c.write_synced.ensures.crash.tells
-    (one_sync S1 S2 c.write_synced-2.result c.write_synced-2.ensures.syncs)
+    let at_first = D c.args.self.now.disk in
+    let at_second = D c.write_synced.new.disk in
+    let at_third = D c.write_synced-2.new.disk in
+    more_syncs at_first at_second at_third (one_sync at_first at_second c.write_synced.result c.write_synced.ensures.syncs) c.write_synced.ensures.crash.tells
+    (one_sync at_second at_third c.write_synced-2.result c.write_synced-2.ensures.syncs)
 
 pub returns-clause-syncs : goal.returns-clause-syncs
 returns-clause-syncs g c =
     let D = g.D.Disk.state in
-    let S0 = D c.args.self.now.disk in
-    let S1 = D c.write_synced.new.disk in
-    let S2 = D c.write_synced-2.new.disk in
-    more_syncs S0 S1 S2 (one_sync S0 S1 c.write_synced.result c.write_synced.ensures.syncs) c.write_synced.ensures.crash.tells
-    (one_sync S1 S2 c.write_synced-2.result c.write_synced-2.ensures.syncs)
+    let at_first = D c.args.self.now.disk in
+    let at_second = D c.write_synced.new.disk in
+    let at_third = D c.write_synced-2.new.disk in
+    more_syncs at_first at_second at_third (one_sync at_first at_second c.write_synced.result c.write_synced.ensures.syncs) c.write_synced.ensures.crash.tells
+    (one_sync at_second at_third c.write_synced-2.result c.write_synced-2.ensures.syncs)

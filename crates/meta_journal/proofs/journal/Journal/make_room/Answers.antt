@@ -15,13 +15,13 @@ pub returns-in-None-clause-any_moment : goal.returns-in-None-clause-any_moment
 returns-in-None-clause-any_moment g c =
     let j = c.args.self.now in
     let A = acknowledged j in
-    let S0 = g.D.Disk.state j.disk in
-    let was : Leaves S0 S0.moment (IsImage j.limit j.used j.area Nothing A) =
-    subst (λ (d : Doubt). Leaves S0 S0.moment (IsImage j.limit j.used j.area d A)) c.requires.settled c.requires.sound in
-    started (HasRows j.limit (rows_of A)) S0 (λ image left. reads_in_doubt j.limit j.used j.area A Nothing image (was image left))
+    let at_first = g.D.Disk.state j.disk in
+    let was : Leaves at_first at_first.moment (IsImage j.limit j.used j.area Nothing A) =
+    subst (λ (d : Doubt). Leaves at_first at_first.moment (IsImage j.limit j.used j.area d A)) c.requires.settled c.requires.sound in
+    started (HasRows j.limit (rows_of A)) at_first (λ image left. reads_in_doubt j.limit j.used j.area A Nothing image (was image left))
 
 pub returns-in-None-clause-syncs : goal.returns-in-None-clause-syncs
 returns-in-None-clause-syncs g c =
     let D = g.D.Disk.state in
-    let S0 = D c.args.self.now.disk in
-    same_syncs S0 S0 refl
+    let at_first = D c.args.self.now.disk in
+    same_syncs at_first at_first refl

@@ -12,42 +12,42 @@ pub returns-in_err-go_over-clause-any_moment : goal.returns-in_err-go_over-claus
 returns-in_err-go_over-clause-any_moment g c =
     let j = c.args.self.now in
     let D = g.D.Disk.state in
-    let S0 = D j.disk in
-    let S1 = D c.reach_other.new.self.disk in
-    let S2 = D c.go_over.new.self.disk in
+    let at_first = D j.disk in
+    let at_second = D c.reach_other.new.self.disk in
+    let at_third = D c.go_over.new.self.disk in
     let A = acknowledged j in
-    let same : LeavesOnly (HasRows j.limit (rows_of A)) S1 S2 =
-    subst (λ (limit : ℕ). LeavesOnly (HasRows limit (rows_of A)) S1 S2) c.reach_other.ensures.same.limit
-    (subst (λ (changes : List Change). LeavesOnly (HasRows c.reach_other.new.self.limit (rows_of changes)) S1 S2) c.reach_other.ensures.acknowledged
+    let same : LeavesOnly (HasRows j.limit (rows_of A)) at_second at_third =
+    subst (λ (limit : ℕ). LeavesOnly (HasRows limit (rows_of A)) at_second at_third) c.reach_other.ensures.same.limit
+    (subst (λ (changes : List Change). LeavesOnly (HasRows c.reach_other.new.self.limit (rows_of changes)) at_second at_third) c.reach_other.ensures.acknowledged
     c.go_over.ensures.any_moment) in
-    run_on (HasRows j.limit (rows_of A)) S0 S1 S2 c.reach_other.ensures.any_moment same
+    run_on (HasRows j.limit (rows_of A)) at_first at_second at_third c.reach_other.ensures.any_moment same
 
 pub returns-clause-any_moment : goal.returns-clause-any_moment
 returns-clause-any_moment g c =
     let j = c.args.self.now in
     let D = g.D.Disk.state in
-    let S0 = D j.disk in
-    let S1 = D c.reach_other.new.self.disk in
-    let S2 = D c.go_over.new.self.disk in
+    let at_first = D j.disk in
+    let at_second = D c.reach_other.new.self.disk in
+    let at_third = D c.go_over.new.self.disk in
     let A = acknowledged j in
-    let same : LeavesOnly (HasRows j.limit (rows_of A)) S1 S2 =
-    subst (λ (limit : ℕ). LeavesOnly (HasRows limit (rows_of A)) S1 S2) c.reach_other.ensures.same.limit
-    (subst (λ (changes : List Change). LeavesOnly (HasRows c.reach_other.new.self.limit (rows_of changes)) S1 S2) c.reach_other.ensures.acknowledged
+    let same : LeavesOnly (HasRows j.limit (rows_of A)) at_second at_third =
+    subst (λ (limit : ℕ). LeavesOnly (HasRows limit (rows_of A)) at_second at_third) c.reach_other.ensures.same.limit
+    (subst (λ (changes : List Change). LeavesOnly (HasRows c.reach_other.new.self.limit (rows_of changes)) at_second at_third) c.reach_other.ensures.acknowledged
     c.go_over.ensures.any_moment) in
-    run_on (HasRows j.limit (rows_of A)) S0 S1 S2 c.reach_other.ensures.any_moment same
+    run_on (HasRows j.limit (rows_of A)) at_first at_second at_third c.reach_other.ensures.any_moment same
 
 pub returns-in_err-go_over-clause-syncs : goal.returns-in_err-go_over-clause-syncs
 returns-in_err-go_over-clause-syncs g c =
     let D = g.D.Disk.state in
-    let S0 = D c.args.self.now.disk in
-    let S1 = D c.reach_other.new.self.disk in
-    let S2 = D c.go_over.new.self.disk in
-    more_syncs S0 S1 S2 c.reach_other.ensures.syncs c.reach_other.ensures.any_moment.tells c.go_over.ensures.syncs
+    let at_first = D c.args.self.now.disk in
+    let at_second = D c.reach_other.new.self.disk in
+    let at_third = D c.go_over.new.self.disk in
+    more_syncs at_first at_second at_third c.reach_other.ensures.syncs c.reach_other.ensures.any_moment.tells c.go_over.ensures.syncs
 
 pub returns-clause-syncs : goal.returns-clause-syncs
 returns-clause-syncs g c =
     let D = g.D.Disk.state in
-    let S0 = D c.args.self.now.disk in
-    let S1 = D c.reach_other.new.self.disk in
-    let S2 = D c.go_over.new.self.disk in
-    more_syncs S0 S1 S2 c.reach_other.ensures.syncs c.reach_other.ensures.any_moment.tells c.go_over.ensures.syncs
+    let at_first = D c.args.self.now.disk in
+    let at_second = D c.reach_other.new.self.disk in
+    let at_third = D c.go_over.new.self.disk in
+    more_syncs at_first at_second at_third c.reach_other.ensures.syncs c.reach_other.ensures.any_moment.tells c.go_over.ensures.syncs
