@@ -22,12 +22,13 @@ abbrev pub follows_script : Script → List Event → Bool
 follows_script script history =
     list_all (λ entry. follows entry.1 (calls history entry.0)) (enumerate_from 0 script.programs)
 
--- A run of a script from these rows, by one thread and without a disk: a legal history in which each program's calls
--- follow its text, and each refusal for want of room is earned.
-pub record IsRun (rows : Rows) (script : Script) (history : List Event) : Type 0 where
+-- A run of a script from these rows, by one thread, over a disk whose count of faults rose from one number to another: a
+-- legal history in which each program's calls follow its text, and each refusal for want of room or by the disk is earned.
+-- Without a disk both numbers are 0.
+pub record IsRun (rows : Rows) (script : Script) (history : List Event) (faults_before faults_after : ℕ) : Type 0 where
   pub legal : IsTrue (is_legal service_limits (opening rows script) history)
   pub follows : IsTrue (follows_script script history)
-  pub earned : IsEarned service_limits (opening rows script) (history ∷ []) 0 0
+  pub earned : IsEarned service_limits (opening rows script) (history ∷ []) faults_before faults_after
 
 -- every program has left or crashed, and no piece is left
 abbrev pub HasEnded : Rows → Script → List Event → Type 0

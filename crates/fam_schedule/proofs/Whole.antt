@@ -112,7 +112,7 @@ scheduled_follows script end all =
     ap (λ k. follows text (calls end.before k)) number ∙ tells_follows text pe one.p.next_call one.p.started end.before one.tells)
 
 -- a history that the schedule gives is one legal run of its script
-pub scheduled_is_run : (rows : Rows) (script : Script) (seed : ℕ) (history : List Event) (whole : Bool) → IsScheduled rows script seed history whole → IsRun rows script history
+pub scheduled_is_run : (rows : Rows) (script : Script) (seed : ℕ) (history : List Event) (whole : Bool) → IsScheduled rows script seed history whole → IsRun rows script history 0 0
 scheduled_is_run rows script seed history whole s =
     let ends = leads_ends script (new_run rows script seed) history s.end (tells_new rows script seed) s.leads in
     record {

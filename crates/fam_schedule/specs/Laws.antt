@@ -11,7 +11,7 @@ use Rattle.fam_schedule.specs.Schedule.{Run, IsScheduled, next_step, program_eve
 -- a history that the schedule gives is one legal run of its script
 pub record ScheduledHistoriesAreRuns : Type 0 where
   pub run : (rows : Rows) (script : Script) (seed : ℕ) (history : List Event) (whole : Bool) →
-      IsScheduled rows script seed history whole → IsRun rows script history
+      IsScheduled rows script seed history whole → IsRun rows script history 0 0
 
 -- nobody may act: no program has an event that may come, and no stripe has a piece that may come
 pub record IsStill (script : Script) (run : Run) : Type 0 where

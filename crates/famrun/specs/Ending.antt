@@ -80,7 +80,7 @@ report script history = report_text (report_of (length script.programs) common_r
 
 -- a run of a script, or the run so far: it is legal, and the one that the schedule gives for the seed
 pub record IsPlayed (seed : ℕ) (script : Script) (history : List Event) (whole : Bool) : Type 0 where
-  pub run : IsRun common_rows script history
+  pub run : IsRun common_rows script history 0 0
   pub scheduled : IsScheduled common_rows script seed history whole
   pub ended : whole ≡ true → HasEnded common_rows script history
 
