@@ -49,5 +49,5 @@ measure() {
 
 failed=0
 measure 64 735 || failed=1
-measure 16 2000 || failed=1
+measure 24 1960 || failed=1
 exit $failed

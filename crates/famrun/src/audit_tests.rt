@@ -817,3 +817,44 @@ fn refuses_what_is_too_long(rt: HostRuntime) -> Result<(), Fail> {
     assert_eq!(rt; left.output.as_slice(), b"too long\n".as_slice());
     Ok(())
 }
+
+const LOOKED_UP: &str = "service 1 1 64
+pe 5 5
+lookup-region r1 a
+region r2 c 64 700
+lookup i1 x a
+end
+stop
+replies
+0.0 region 1
+0.1 region 3
+0.2 item 1 1 0 256
+0.3 left
+opening 3 3
+region 1 5 5 700 4096 a
+region 2 5 4294967295 700 128 b
+item 1 1 0 256 5 6 600 x
+item 2 1 256 64 5 6 600 y
+events 4
+0.0 meta lookup-region r1 a : region 1
+";
+
+#[test]
+fn judges_behind_an_opening(rt: HostRuntime) -> Result<(), Fail> {
+    let table: [(&str, &str); 4] = [
+        ("0.1 meta region r2 c 64 700 : region 3", "legal 4\n"),
+        ("0.1 meta region r2 c 64 700 : region 4", "illegal 20 2\n"),
+        ("0.1 meta region r2 b 64 700 : region 3", "illegal 20 1\n"),
+        (
+            "0.1 meta region r2 c 64 700 : error Exists",
+            "illegal 20 2\n",
+        ),
+    ];
+    for (event, told) in table {
+        let input = format!(in rt.alloc();
+            "{LOOKED_UP}{event}\n0.2 meta lookup i1 x a : item 1 1 0 256\n0.3 leave\ndone\n"
+        )?;
+        check(&rt, rt.alloc(), input.as_bytes(), told)?;
+    }
+    Ok(())
+}
