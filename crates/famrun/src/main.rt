@@ -5,15 +5,11 @@
 #![tactic(auto)]
 
 mod audit;
-#[cfg(test)]
-mod audit_tests;
 mod command;
 mod ending;
 #[cfg(test)]
 mod made_tests;
 mod make;
-#[cfg(test)]
-mod played_tests;
 mod reading;
 mod sim;
 #[cfg(test)]
