@@ -150,7 +150,7 @@ module _ {D : Type 0} {disk : Ghosts D} where
           elim not_yet [
             | inl is ↦ absurd (not_so (test.1 (ap change_in_doubt is)))
             | inr quiet ↦ mapped (HasRowsInDoubt mid.limit (acknowledged mid) mid.doubt) (HasSome (MayLeave rows (change_in_doubt mid.doubt) false change)) (disk.state mid.disk) (disk.state new.disk) tells quiet
-              (λ told image holds. let d = in_doubt mid.limit rows (acknowledged mid) mid.doubt image has.limit (has.rows_are told) holds in (d.0, inl d.1, d.2))
+                (λ told image holds. let d = in_doubt mid.limit rows (acknowledged mid) mid.doubt image has.limit (has.rows_are told) holds in (d.0, inl d.1, d.2))
           ]
 
       doubts : (b : Bool) → ((b ≡ true) ↔ (change_in_doubt new.doubt ≡ Some change)) → MayDoubt mid.doubt room change new.doubt → DoubtsAfter (change_in_doubt mid.doubt) change (change_in_doubt new.doubt) (Ok (Refused b))
@@ -190,7 +190,7 @@ module _ {D : Type 0} {disk : Ghosts D} where
         stopped = refl;
         leaves = mapped (HasRowsInDoubt old.limit (acknowledged old) old.doubt) (HasSome (IsInDoubt rows (change_in_doubt old.doubt))) (disk.state old.disk) (disk.state new.disk) tells run
             (λ told image holds. in_doubt old.limit rows (acknowledged old) old.doubt image has.limit (has.rows_are told) holds);
-        doubt = elim doubt [ | inl none ↦ inl (ap change_in_doubt none) | inr (still, rose) ↦ inr (ap change_in_doubt still, rose) ];
+        doubt = elim doubt [ inl none ↦ inl (ap change_in_doubt none) | inr (still, rose) ↦ inr (ap change_in_doubt still, rose) ];
         cause = later;
       }
 

@@ -28,11 +28,7 @@ fn group_of(change: &Change) -> u32
 }
 
 /// Takes the memory for the append of a change. A journal of the service's limit is never full.
-fn reserve<D: Disk>(
-    journal: &mut Journal<D>,
-    rows: &Rows,
-    change: &Change,
-) -> Result<(), NoMemory>
+fn reserve<D: Disk>(journal: &mut Journal<D>, rows: &Rows, change: &Change) -> Result<(), NoMemory>
     requires kept { keeping.HasKept journal.old rows.now }
     requires lawful { IsLawful rows.now }
     requires lawful_change { IsTrue (is_lawful_change rows.now change.now) }

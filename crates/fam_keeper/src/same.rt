@@ -26,10 +26,7 @@ fn creates(
             size,
             name,
         } => {
-            *region == number
-                && (*uid, *gid, *mode) == owner
-                && *size == extent
-                && name == called
+            *region == number && (*uid, *gid, *mode) == owner && *size == extent && name == called
         }
         _ => false,
     }
@@ -88,7 +85,13 @@ pub fn is_same(one: &Change, other: &Change) -> bool
             gid,
             mode,
             name,
-        } => allocates(other, (*item, *region, *base), (*uid, *gid, *mode), *size, name),
+        } => allocates(
+            other,
+            (*item, *region, *base),
+            (*uid, *gid, *mode),
+            *size,
+            name,
+        ),
         _ => is_same_without_row(one, other),
     }
 }
@@ -99,7 +102,8 @@ fn is_same_without_row(one: &Change, other: &Change) -> bool
     ensures { (result ≡ true) ↔ (one.now ≡ other.now) }
 {
     match (one, other) {
-        (Change::DestroyRegion { region }, Change::DestroyRegion { region: same }) => region == same,
+        (Change::DestroyRegion { region }, Change::DestroyRegion { region: same }) => region
+            == same,
         (
             Change::ResizeRegion { region, size },
             Change::ResizeRegion {
