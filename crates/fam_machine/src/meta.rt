@@ -6,10 +6,11 @@ ghost use Rattle.fam_model.specs.declared.event.What.TheVariants as what;
 ghost use Rattle.fam_rows.specs.Laws.{asked_mode};
 ghost use Rattle.fam_machine.specs.Views.{state_of, turn_at, effect_at};
 ghost use Rattle.fam_model.specs.Directory.{refusal};
+ghost use Rattle.fam_model.specs.History.{change_in};
 ghost use Rattle.fam_model.specs.MetaStep as steps;
 ghost use Rattle.fam_model.specs.Rows.{IsLawful};
 ghost use Rattle.fam_machine.specs.Sound.{call_mode, IsMemoryOf, IsSound};
-ghost use Rattle.fam_machine.specs.Effects.{Tells, told_if, Answers, Takes};
+ghost use Rattle.fam_machine.specs.Effects.{Tells, told_if, Answers, IsLawfulHere, Takes};
 
 use crate::error::StepError;
 use crate::memory::{self, Memory};
@@ -103,6 +104,31 @@ pub fn tell(
     match told_change(alloc, rows, who, request, given)? {
         Some(chosen) => Ok(Told::Serves(chosen)),
         None => Ok(Told::Wrong),
+    }
+}
+
+/// The change that a call with this reply would serve, if it would serve one.
+pub fn change_of(
+    alloc: Global,
+    parts: &Parts,
+    pe: usize,
+    asked: &MetaCall,
+    given: &Reply,
+) -> Result<Option<Change>, NoMemory>
+    requires sound { IsSound (state_of parts.now) }
+    requires mode { call_mode asked.now ≤ 511 }
+    ensures change { IfOk result (λ found. found ≡ change_in (state_of parts.now) pe (what.Meta asked.now given.now)) }
+    ensures lawful { IfOk result (IsLawfulHere parts.now.rows) }
+{
+    let Some(program) = parts.programs.get(pe) else {
+        return Ok(None);
+    };
+    let Some(request) = program.request_of(alloc, asked)? else {
+        return Ok(None);
+    };
+    match tell(alloc, &parts.rows, program.who(), &request, given)? {
+        Told::Serves(chosen) => Ok(Some(chosen)),
+        Told::Right | Told::Wrong => Ok(None),
     }
 }
 

@@ -330,6 +330,16 @@ module _ (limit used : ℕ) (area : Area) (changes : List Change) (change : Chan
       (started P old (λ image left. before_reads limit used area changes change image (was image left))) passes was
       (λ d c before torn. before_reads limit used area changes change c (still_before n d c before torn))
 
+  before_has : (image : List ℕ) → Before limit used area changes change image → HasRows limit (rows_of changes) image
+  before_has image before = rows_read limit area changes image (omega (arith, before.room, before.place)) before.lawful before.header before.held.0 before.held.1
+
+  -- the record alone makes no difference
+  pub record_unseen : (n : ℕ) (old new : DiskState) → Was old → Passes (IsTorn (place + 1) n) old new → LeavesOnly (HasRows limit (rows_of changes)) old new
+  record_unseen n old new was passes =
+      goes_on (IsTorn (place + 1) n) (HasRows limit (rows_of changes)) (Before limit used area changes change) old old new
+      (started (HasRows limit (rows_of changes)) old (λ image left. before_has image (was image left))) passes was
+      (λ d c before torn. before_has c (still_before n d c before torn))
+
   pub record_written : (old new : DiskState) → Reads old → Was old → IsSynced new → new.content ≡ option_map (written (place + 1) bytes) old.content → IsStaged new
   record_written old new reads was synced content =
       written_after (place + 1) bytes old new (Before limit used area changes change) (Staged limit used area changes change) reads synced content was

@@ -13,6 +13,7 @@ use Rattle.fam_model.specs.Lawful.{is_lawful_change}
 use Rattle.fam_model.specs.Rows.{common_rows}
 use Rattle.meta_codec.specs.Body.{HasBody}
 use Rattle.meta_journal.specs.declared.doubt.Doubt.{Doubt}
+use Rattle.meta_journal.specs.declared.doubt.Doubt.TheVariants.{Nothing, OfChange, OfArea}
 use Rattle.meta_journal.specs.declared.journal.Journal.{Journal}
 use Rattle.meta_journal.specs.declared.reserve.Reserve.{Reserve}
 use Rattle.meta_journal.specs.Image.{IsAddable}
@@ -42,6 +43,24 @@ module _ (limit : ℕ) (changes : List Change) (doubt : Doubt) (change : Change)
       run_on May old mid new so_far (weaker (HasRowsOrAfter limit' changes' change) May mid new run (λ image holds.
       inr (subst (λ (n : ℕ). HasRows n (rows_of changes) image ⊎ HasRows n (after (rows_of changes) change) image) same_limit
       (subst (λ (rows : Rows). HasRows limit' rows image ⊎ HasRows limit' (after rows change) image) same_rows holds))))
+
+  -- the same, where the change does not count yet
+  abbrev Was : List ℕ → Type 0
+  Was = HasRowsInDoubt limit changes doubt
+
+  has_was : (image : List ℕ) → HasRows limit (rows_of changes) image → Was image
+  has_was image holds = by_doubt doubt
+    where
+      by_doubt : (d : Doubt) → HasRowsInDoubt limit changes d image
+      by_doubt Nothing = holds
+      by_doubt (OfChange c) = inl holds
+      by_doubt OfArea = holds
+
+  pub rows_so_far : (old mid new : DiskState) (limit' : ℕ) (changes' : List Change) → limit' ≡ limit → rows_of changes' ≡ rows_of changes
+      → LeavesOnly (HasRowsInDoubt limit changes doubt) old mid → LeavesOnly (HasRows limit' (rows_of changes')) mid new → LeavesOnly (HasRowsInDoubt limit changes doubt) old new
+  rows_so_far old mid new limit' changes' same_limit same_rows so_far run =
+      run_on Was old mid new so_far (weaker (HasRows limit' (rows_of changes')) Was mid new run (λ image holds.
+      has_was image (subst (λ (n : ℕ). HasRows n (rows_of changes) image) same_limit (subst (λ (rows : Rows). HasRows limit' rows image) same_rows holds))))
 
 -- what may be written may be written still
 pub may_go_on : {D : Type 0} {disk : Ghosts D} (old new : Journal D disk) → IsSameJournal old new → acknowledged new ≡ acknowledged old

@@ -3,7 +3,7 @@
 ghost use Rattle.std.specs.Prelude.{◌≡◌, ◌+◌, ◌≤◌, ◌++◌, [], ◌∷◌, OnOk, OnErr, IsSome, ◌⊎◌};
 ghost use Rattle.fam_base.specs.Causes.{HasCause};
 ghost use Rattle.fam_disk.specs.Crash.{LeavesOnly};
-ghost use Rattle.fam_model.specs.Journal.{record_length};
+ghost use Rattle.fam_model.specs.Journal.{record_length, rows_of};
 
 use crate::area::disk_place;
 use crate::doubt::Doubt;
@@ -16,6 +16,7 @@ impl<D: Disk> Journal<D> {
     ghost use Rattle.meta_journal.specs.Syncs.{KeepsSyncs};
     ghost use Rattle.meta_journal.specs.State.{acknowledged, IsSound, HasRowsOrAfter};
     ghost use Rattle.meta_journal.specs.Image.{IsAddable};
+    ghost use Rattle.meta_journal.specs.Reading.{HasRows};
     ghost use Rattle.meta_journal.specs.declared.doubt.Doubt.TheVariants.{Nothing, OfChange};
 
     /// Writes a record behind the closed gate, then opens the gate.
@@ -35,6 +36,9 @@ impl<D: Disk> Journal<D> {
         ensures acknowledged { OnErr result (acknowledged self.new ≡ acknowledged self.old) }
         ensures settled { OnOk result (self.new.doubt ≡ Nothing) }
         ensures in_doubt { OnErr result ((self.new.doubt ≡ Nothing) ⊎ (self.new.doubt ≡ OfChange reserved.change)) }
+        // A failure that leaves this change not in doubt was met before its gate was touched.
+        ensures not_yet { OnErr result ((self.new.doubt ≡ OfChange reserved.change)
+            ⊎ LeavesOnly (HasRows self.old.limit (rows_of (acknowledged self.old))) (D.state self.old.disk) (D.state self.new.disk)) }
         ensures syncs { KeepsSyncs (D.state self.old.disk) (D.state self.new.disk) }
         ensures cause { HasCause (D.state self.old.disk).faults (D.state self.new.disk).faults result }
     {

@@ -67,6 +67,8 @@ impl<D: Disk> Journal<D> {
         ensures settled { OnOk result (self.new.doubt ≡ Nothing) }
         ensures in_doubt { OnErr result ((self.new.doubt ≡ self.old.doubt) ⊎ (self.new.doubt ≡ Nothing)
             ⊎ (self.new.doubt ≡ OfChange reserve.record.change) ⊎ ((self.new.doubt ≡ OfArea) × IsSome reserve.short)) }
+        ensures not_yet { OnErr result ((self.new.doubt ≡ OfChange reserve.record.change)
+            ⊎ LeavesOnly (HasRowsInDoubt self.old.limit (acknowledged self.old) self.old.doubt) (D.state self.old.disk) (D.state self.new.disk)) }
         ensures syncs { KeepsSyncs (D.state self.old.disk) (D.state self.new.disk) }
         ensures cause { HasCause (D.state self.old.disk).faults (D.state self.new.disk).faults result }
     {
@@ -80,9 +82,9 @@ impl<D: Disk> Journal<D> {
 
 impl<D: Disk> Journal<D> {
     ghost use Rattle.meta_journal.specs.Syncs.{KeepsSyncs};
-    ghost use Rattle.meta_journal.specs.State.{acknowledged, IsSound, IsReserved, MayHold, MayDoubt, has_room, kept_changes, kept_place};
+    ghost use Rattle.meta_journal.specs.State.{acknowledged, IsSound, IsReserved, HasRowsInDoubt, MayHold, MayDoubt, has_room, kept_changes, kept_place};
     ghost use Rattle.meta_journal.specs.Reading.{HasRows};
-    ghost use Rattle.meta_journal.specs.declared.doubt.Doubt.TheVariants.{Nothing};
+    ghost use Rattle.meta_journal.specs.declared.doubt.Doubt.TheVariants.{Nothing, OfChange};
     ghost use Rattle.fam_base.specs.declared.error.FamError.TheVariants.{DiskFault};
 
     /// Appends the change for which memory was reserved. From `Ok` on each crash leaves it.
@@ -114,6 +116,9 @@ impl<D: Disk> Journal<D> {
         ensures used_after_failure { (rows : Rows) → IsReserved self.old change.now rows → OnErr result
             ((self.new.used ≡ self.old.used) ⊎ (self.new.used ≡ kept_place self.old.limit self.old.used rows change.now)) }
         ensures failed { OnErr result (result ≡ Err DiskFault) }
+        // A failure that leaves this change not in doubt was met before its gate was touched.
+        ensures not_yet { OnErr result ((self.new.doubt ≡ OfChange change.now)
+            ⊎ LeavesOnly (HasRowsInDoubt self.old.limit (acknowledged self.old) self.old.doubt) (D.state self.old.disk) (D.state self.new.disk)) }
         ensures syncs { KeepsSyncs (D.state self.old.disk) (D.state self.new.disk) }
         ensures cause { HasCause (D.state self.old.disk).faults (D.state self.new.disk).faults result }
     {

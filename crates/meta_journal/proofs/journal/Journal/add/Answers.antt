@@ -1,18 +1,19 @@
 use Rattle.meta_journal.proofs.Syncs.{one_sync, more_syncs}
-use Rattle.std.proofs.Common.{◌≡◌, ℕ, ◌+◌, ◌<◌, [], ◌∷◌, ◌++◌, length, length-append, sym, ◌∙◌, ap, subst, arith}
+use Rattle.std.proofs.Common.{inl, inr, ◌≡◌, ℕ, ◌+◌, ◌<◌, [], ◌∷◌, ◌++◌, length, length-append, sym, ◌∙◌, ap, subst, arith}
 use Rattle.std.specs.Prelude.{IsSome}
 use Rattle.fam_disk.specs.Crash.{Leaves}
 use Rattle.fam_disk.proofs.Moments.{started, passing, where_told, now_where_told}
-use Rattle.fam_model.specs.Journal.{record_length}
+use Rattle.fam_model.specs.Journal.{record_length, rows_of}
 use Rattle.meta_journal.specs.Image.{IsImage}
 use Rattle.meta_journal.specs.Layout.{record_bytes}
+use Rattle.meta_journal.specs.Reading.{HasRows}
 use Rattle.meta_journal.specs.State.{acknowledged, HasRowsOrAfter}
 use Rattle.meta_journal.specs.declared.doubt.Doubt.{Doubt}
 use Rattle.meta_journal.specs.declared.doubt.Doubt.TheVariants.{Nothing, OfChange}
 use Rattle.meta_journal.proofs.Records.{body_is_counted}
 use Rattle.meta_journal.proofs.Results.{on_err}
 use Rattle.meta_journal.proofs.Settling.{still_acknowledged}
-use Rattle.meta_journal.proofs.Adding.{sound_from, known_acknowledged, told_of, told_before, record_fits, record_failed, record_moments, record_written, gate_fits, gate_failed, gate_moments, gate_opened}
+use Rattle.meta_journal.proofs.Adding.{sound_from, known_acknowledged, told_of, told_before, record_fits, record_failed, record_moments, record_unseen, record_written, gate_fits, gate_failed, gate_moments, gate_opened}
 use Rattle.meta_journal.proofs.journal.Journal.add.Goals as goal
 
 pub write_synced-requires-clause-within : goal.write_synced-requires-clause-within
@@ -221,3 +222,16 @@ returns-clause-syncs g c =
     let at_third = D c.write_synced-2.new.disk in
     more_syncs at_first at_second at_third (one_sync at_first at_second c.write_synced.result c.write_synced.ensures.syncs) c.write_synced.ensures.crash.tells
     (one_sync at_second at_third c.write_synced-2.result c.write_synced-2.ensures.syncs)
+
+pub returns-in_err-write_synced-clause-not_yet : goal.returns-in_err-write_synced-clause-not_yet
+returns-in_err-write_synced-clause-not_yet g c =
+    let j = c.args.self.now in
+    let change = c.args.reserved.change in
+    let A = acknowledged j in
+    let at_first = g.D.Disk.state j.disk in
+    let laws = g.met.D.Disk g.world.𝓛 g.world.𝓜 g.world.𝓡 ((λ s x. x), (λ x. x), (λ x. x), λ x. x) in
+    let room : j.used + record_length change < j.limit = omega arith in
+    let was : Leaves at_first at_first.moment (IsImage j.limit j.used j.area Nothing A) =
+    subst (λ (d : Doubt). Leaves at_first at_first.moment (IsImage j.limit j.used j.area d A)) c.requires.settled c.requires.sound in
+    let at_second = g.D.Disk.state c.write_synced.new.disk in
+    on_err _ (inr (where_told (HasRows j.limit (rows_of A)) at_first at_second (laws.tells_content c.write_synced.new.disk) c.write_synced.ensures.crash.tells (passing _ at_first at_first at_second (started (λ image. Unit {0}) at_first (λ image left. tt)) c.write_synced.ensures.crash) (λ told. record_unseen j.limit j.used j.area A change (c.requires.addable told) room c.disk_place-gate.result c.disk_place-gate.ensures c.as_slice.result.now (c.as_slice.ensures ∙ c.args.reserved.spells) _ at_first at_second was c.write_synced.ensures.crash)))

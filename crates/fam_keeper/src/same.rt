@@ -1,0 +1,102 @@
+//! Whether two changes are the same.
+
+ghost use Rattle.std.specs.Prelude.{◌↔◌, ◌≡◌, true};
+ghost use Rattle.fam_model.specs.declared.change.Change.TheVariants as change;
+
+use fam_base::{Bytes, ItemId, Mode, RegionId};
+use fam_model::Change;
+
+/// Whether a change creates this region.
+fn creates(
+    change: &Change,
+    number: RegionId,
+    owner: (u32, u32, Mode),
+    extent: u64,
+    called: &Bytes,
+) -> bool
+    ensures { (result ≡ true) ↔ (change.now ≡ change.CreateRegion number owner.0 owner.1 owner.2 extent called.now) }
+{
+    match change {
+        Change::CreateRegion {
+            region,
+            uid,
+            gid,
+            mode,
+            size,
+            name,
+        } => {
+            *region == number
+                && (*uid, *gid, *mode) == owner
+                && *size == extent
+                && name == called
+        }
+        _ => false,
+    }
+}
+
+/// Whether a change allocates this item.
+fn allocates(
+    change: &Change,
+    place: (ItemId, RegionId, u64),
+    owner: (u32, u32, Mode),
+    extent: u64,
+    called: &Bytes,
+) -> bool
+    ensures { (result ≡ true)
+        ↔ (change.now ≡ change.Allocate place.0 place.1 place.2 extent owner.0 owner.1 owner.2 called.now) }
+{
+    match change {
+        Change::Allocate {
+            item,
+            region,
+            base,
+            size,
+            uid,
+            gid,
+            mode,
+            name,
+        } => {
+            (*item, *region, *base) == place
+                && (*uid, *gid, *mode) == owner
+                && *size == extent
+                && name == called
+        }
+        _ => false,
+    }
+}
+
+/// Whether two changes are the same.
+pub fn is_same(one: &Change, other: &Change) -> bool
+    ensures { (result ≡ true) ↔ (one.now ≡ other.now) }
+{
+    match one {
+        Change::CreateRegion {
+            region,
+            uid,
+            gid,
+            mode,
+            size,
+            name,
+        } => creates(other, *region, (*uid, *gid, *mode), *size, name),
+        Change::Allocate {
+            item,
+            region,
+            base,
+            size,
+            uid,
+            gid,
+            mode,
+            name,
+        } => allocates(other, (*item, *region, *base), (*uid, *gid, *mode), *size, name),
+        _ => is_same_without_row(one, other),
+    }
+}
+
+/// The same of changes that add no row.
+fn is_same_without_row(one: &Change, other: &Change) -> bool
+{
+    match (one, other) {
+        (Change::DestroyRegion { region }, Change::DestroyRegion { region: of }) => region == of,
+        _ => false,
+    }
+}
