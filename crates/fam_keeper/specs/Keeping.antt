@@ -30,13 +30,13 @@ abbrev pub HasKeptIn : {D : Type 0} {disk : Ghosts D} → Option (Journal D disk
 HasKeptIn None rows = Unit {0}
 HasKeptIn (Some journal) rows = HasKept journal rows
 
--- the keeper has kept the changes that lead to these rows; one that is ahead has kept one change more
+-- A keeper has kept the changes that lead to these rows. One that was stopped may have kept one change more.
 abbrev pub HasKeptOrMore : {D : Type 0} {disk : Ghosts D} → Option (Journal D disk) → Bool → Rows → Type 0
 HasKeptOrMore journal false rows = HasKeptIn journal rows
-HasKeptOrMore journal true rows = (change : Change) × HasKeptIn journal (after rows change)
+HasKeptOrMore journal true rows = HasKeptIn journal rows ⊎ ((change : Change) × HasKeptIn journal (after rows change))
 
 abbrev pub Keeps : {D : Type 0} {disk : Ghosts D} → Keeper D disk → Rows → Type 0
-Keeps keeper rows = HasKeptOrMore keeper.journal keeper.ahead rows
+Keeps keeper rows = HasKeptOrMore keeper.journal keeper.stopped rows
 
 -- the change that a crash may leave beside what was kept
 abbrev pub doubt_of : {D : Type 0} {disk : Ghosts D} → Keeper D disk → Option Change
@@ -107,15 +107,22 @@ HasFailed before now (Err e) = now ≡ before
 -- what came of a change of these rows
 pub record IsTaken {D : Type 0} {disk : Ghosts D} (rows : Rows) (change : Change) (old new : Keeper D disk) (result : Result Kept NoMemory) : Type 0 where
   pub kept : HasKeptIn new.journal (rows_behind rows change result)
-  pub level : new.ahead ≡ false
+  pub goes_on : new.stopped ≡ false
   pub leaves : LeavesRows (MayLeave rows (doubt_of old) (may_count result) change) old new
   pub doubt : DoubtsAfter (doubt_of old) change (doubt_of new) result
   pub cause : HasFailed (faults_of old) (faults_of new) result
 
--- the doubt was closed, if the disk let it be
+-- the same of a journal
+pub record IsAppended {D : Type 0} {disk : Ghosts D} (rows : Rows) (change : Change) (old new : Journal D disk) (result : Result Kept NoMemory) : Type 0 where
+  pub kept : HasKept new (rows_behind rows change result)
+  pub leaves : LeavesOnly (HasSome (MayLeave rows (change_in_doubt old.doubt) (may_count result) change)) (disk.state old.disk) (disk.state new.disk)
+  pub doubt : DoubtsAfter (change_in_doubt old.doubt) change (change_in_doubt new.doubt) result
+  pub cause : HasFailed (disk.state old.disk).faults (disk.state new.disk).faults result
+
+-- what was in doubt beside these rows was closed, if the disk let it be
 pub record IsSettled {D : Type 0} {disk : Ghosts D} (rows : Rows) (old new : Keeper D disk) : Type 0 where
-  pub kept : HasKeptOrMore new.journal old.ahead rows
-  pub level : new.ahead ≡ old.ahead
-  pub leaves : (kept : Rows) → HasKeptIn old.journal kept → LeavesRows (IsInDoubt kept (doubt_of old)) old new
+  pub kept : HasKeptIn new.journal rows
+  pub stopped : new.stopped ≡ old.stopped
+  pub leaves : LeavesRows (IsInDoubt rows (doubt_of old)) old new
   pub doubt : (doubt_of new ≡ None) ⊎ ((doubt_of new ≡ doubt_of old) × Rose (faults_of old) (faults_of new))
   pub cause : faults_of old ≤ faults_of new

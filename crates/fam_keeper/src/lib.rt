@@ -1,6 +1,7 @@
 //! What keeps the changes of the directory: a journal, or nothing.
 #![tactic(auto)]
 
+mod appending;
 mod keeper;
 mod kept;
 mod same;

@@ -1,7 +1,8 @@
 //! Whether two changes are the same.
 
-ghost use Rattle.std.specs.Prelude.{◌↔◌, ◌≡◌, true};
+ghost use Rattle.std.specs.Prelude.{◌↔◌, ◌≡◌, true, false};
 ghost use Rattle.fam_model.specs.declared.change.Change.TheVariants as change;
+ghost use Rattle.fam_rows.specs.Making.{adds_row};
 
 use fam_base::{Bytes, ItemId, Mode, RegionId};
 use fam_model::Change;
@@ -94,9 +95,43 @@ pub fn is_same(one: &Change, other: &Change) -> bool
 
 /// The same of changes that add no row.
 fn is_same_without_row(one: &Change, other: &Change) -> bool
+    requires { adds_row one.now ≡ false }
+    ensures { (result ≡ true) ↔ (one.now ≡ other.now) }
 {
     match (one, other) {
-        (Change::DestroyRegion { region }, Change::DestroyRegion { region: of }) => region == of,
+        (Change::DestroyRegion { region }, Change::DestroyRegion { region: same }) => region == same,
+        (
+            Change::ResizeRegion { region, size },
+            Change::ResizeRegion {
+                region: same,
+                size: extent,
+            },
+        ) => region == same && size == extent,
+        (Change::Deallocate { item }, Change::Deallocate { item: same }) => item == same,
+        (
+            Change::SetItemMode { item, mode },
+            Change::SetItemMode {
+                item: same,
+                mode: bits,
+            },
+        ) => item == same && mode == bits,
+        (
+            Change::SetRegionMode { region, mode },
+            Change::SetRegionMode {
+                region: same,
+                mode: bits,
+            },
+        ) => region == same && mode == bits,
+        (
+            Change::Skip {
+                next_region,
+                next_item,
+            },
+            Change::Skip {
+                next_region: region,
+                next_item: item,
+            },
+        ) => next_region == region && next_item == item,
         _ => false,
     }
 }

@@ -1,0 +1,80 @@
+//! Keeping a change in a journal.
+
+ghost use Rattle.std.specs.Prelude.{◌≡◌, ◌↔◌, ◌<◌, ◌^◌, Some, true, IsTrue, OnOk};
+ghost use Rattle.fam_model.specs.Lawful.{is_lawful_change};
+ghost use Rattle.fam_model.specs.Rows.{IsLawful};
+ghost use Rattle.meta_codec.specs.Body.{HasBody};
+ghost use Rattle.meta_journal.specs.Laws.{group_given};
+ghost use Rattle.meta_journal.specs.State as journals;
+ghost use Rattle.fam_keeper.specs.Keeping as keeping;
+
+use crate::kept::Kept;
+use crate::same::is_same;
+use fam_base::{FamError, NoMemory};
+use fam_disk::Disk;
+use fam_model::{Change, Rows};
+use meta_journal::Journal;
+
+/// The group that a change gives, and 0 where it gives none.
+fn group_of(change: &Change) -> u32
+    ensures value { result ≡ group_given change.now }
+    ensures bound { result < 2 ^ 32 }
+{
+    match change {
+        Change::CreateRegion { gid, .. } | Change::Allocate { gid, .. } => *gid,
+        _ => 0,
+    }
+}
+
+/// Takes the memory for the append of a change. A journal of the service's limit is never full.
+fn reserve<D: Disk>(
+    journal: &mut Journal<D>,
+    rows: &Rows,
+    change: &Change,
+) -> Result<(), NoMemory>
+    requires kept { keeping.HasKept journal.old rows.now }
+    requires lawful { IsLawful rows.now }
+    requires lawful_change { IsTrue (is_lawful_change rows.now change.now) }
+    requires has_body { HasBody change.now }
+    ensures same { journals.IsUntouched journal.old journal.new }
+    ensures sound { journals.IsSound journal.new }
+    ensures acknowledged { journals.acknowledged journal.new ≡ journals.acknowledged journal.old }
+    ensures ok { OnOk result (journals.IsReserved journal.new change.now rows.now) }
+{
+    match journal.reserve_with(change, rows) {
+        Ok(()) => Ok(()),
+        Err(FamError::Memory) => Err(NoMemory),
+        Err(_) => unreachable!(),
+    }
+}
+
+/// Whether a crash may leave this change, which was not acknowledged.
+fn is_in_doubt<D: Disk>(journal: &Journal<D>, change: &Change) -> bool
+    ensures { (result ≡ true) ↔ (journals.change_in_doubt journal.now.doubt ≡ Some change.now) }
+{
+    match journal.doubt() {
+        Some(doubt) => is_same(doubt, change),
+        None => false,
+    }
+}
+
+/// Keeps a lawful change of these rows in a journal.
+pub fn append<D: Disk>(
+    journal: &mut Journal<D>,
+    rows: &Rows,
+    change: &Change,
+) -> Result<Kept, NoMemory>
+    requires kept { keeping.HasKept journal.old rows.now }
+    requires lawful { IsLawful rows.now }
+    requires lawful_change { IsTrue (is_lawful_change rows.now change.now) }
+    ensures { keeping.IsAppended rows.now change.now journal.old journal.new result }
+{
+    prove!(u64::from(group_of(change)) < 0x1_0000_0000);
+    reserve(journal, rows, change)?;
+    match journal.append(change) {
+        Ok(()) => Ok(Kept::Served),
+        Err(_) => Ok(Kept::Refused {
+            doubt: is_in_doubt(journal, change),
+        }),
+    }
+}
