@@ -14,7 +14,7 @@ use Rattle.fam_model.specs.Lists.{◌>>=◌, is_some_and}
 use Rattle.fam_model.specs.Programs.{program_of}
 use Rattle.fam_model.specs.Step.{step}
 use Rattle.fam_model.specs.Turn.{call_made, is_idle}
-use Rattle.fam_schedule.specs.Schedule.{PieceName, event_of, loss, piece_event}
+use Rattle.fam_schedule.specs.Schedule.{Comes, PieceName, event_of, loss, piece_event}
 use Rattle.fam_turns.specs.Turns.{event_with, next_by}
 use Rattle.fam_steps.specs.declared.step.Step.{Step}
 use Rattle.fam_steps.specs.declared.step.Step.TheVariants as asked
@@ -98,11 +98,17 @@ pub record Makes (old : Course) (event : Event) (new : Course) : Type 0 where
   pub steps : step service_limits old.state event ≡ Some new.state
   pub kept : new.history ≡ old.history ++ event ∷ []
 
--- an event was made that has the shape of a step, and is the one that the step is for
+-- an event was made where one is due: this one, or in its place its refusal by the disk
+pub record MakesDue (old : Course) (due event : Event) (new : Course) : Type 0 where
+  pub comes : Comes old.state due event
+  pub makes : Makes old event new
+
+-- An event was made that has the shape of a step. It is the one that the step is for, or its refusal by the disk.
 pub record Serves (old : Course) (asked : Step) (event : Event) (new : Course) : Type 0 where
   pub shape : HasShape asked event
-  pub is_due : event_for old.state asked ≡ Some event
-  pub makes : Makes old event new
+  pub due : Event
+  pub is_due : event_for old.state asked ≡ Some due
+  pub makes : MakesDue old due event new
 
 -- what comes of a step; after a fault the service is as it was
 abbrev pub Applies : Course → Step → Course → Result Event CoreFault → Type 0
@@ -116,8 +122,9 @@ Advances old asked new (Ok _) = (event : Event) × Serves old asked event new
 Advances old asked new (Err NotEnabled) = IsNotEnabled old.state asked × (new ≡ old)
 Advances old asked new (Err Memory) = new ≡ old
 
--- the next event of a program was made, where this is its next call
+-- the next event of a program was made, where this is its next call, or its refusal by the disk
 abbrev pub TakesTurn : Course → ℕ → Option Call → Course → Result Unit CoreFault → Type 0
-TakesTurn old pe wanted new (Ok _) = (event : Event) × (event_with old.state pe wanted ≡ Some event) × Makes old event new
+TakesTurn old pe wanted new (Ok _) =
+    (due : Event) × (event : Event) × (event_with old.state pe wanted ≡ Some due) × MakesDue old due event new
 TakesTurn old pe wanted new (Err NotEnabled) = (event_with old.state pe wanted ≡ None) × (new ≡ old)
 TakesTurn old pe wanted new (Err Memory) = new ≡ old

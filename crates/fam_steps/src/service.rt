@@ -54,30 +54,37 @@ impl Core {
         })
     }
 
-    /// Makes the event that a step is for, and hands it out. `NotEnabled` exactly where no event of that shape may come. After
-    /// a fault the service is as it was.
-    pub fn apply(&mut self, wanted: &Step) -> Result<Event, CoreFault>
+    /// Makes the event that a step is for, and hands it out. A change is kept before it is served; where the disk of the
+    /// keeper fails the event is its refusal. `NotEnabled` exactly where no event of that shape may come. After a fault the
+    /// service is as it was.
+    pub fn apply<D: Disk>(&mut self, keeper: &mut Keeper<D>, wanted: &Step) -> Result<Event, CoreFault>
+        requires kept { Keeps keeper.old self.old.state.rows }
         ensures applies { steps.Applies self.old wanted.now self.new result }
         ensures legal { steps.GoesOn self.old self.new }
+        ensures kept { Keeps keeper.new self.new.state.rows }
+        ensures keeps { KeepsOn self.old keeper.old self.new keeper.new }
     {
-        let Some(event) = self.due(wanted)? else {
+        let Some(due) = self.due(wanted)? else {
             return Err(CoreFault::NotEnabled);
         };
+        let event = self.kept(keeper, due)?;
         let told = copy_event(&event)?;
         self.make(event)?;
         Ok(told)
     }
 
     /// Makes the event that a step is for: it is then the last one of the history. Else as `apply`.
-    pub fn advance(&mut self, wanted: &Step) -> Result<(), CoreFault>
+    pub fn advance<D: Disk>(&mut self, keeper: &mut Keeper<D>, wanted: &Step) -> Result<(), CoreFault>
+        requires kept { Keeps keeper.old self.old.state.rows }
         ensures goes { steps.Advances self.old wanted.now self.new result }
         ensures legal { steps.GoesOn self.old self.new }
+        ensures kept { Keeps keeper.new self.new.state.rows }
+        ensures keeps { KeepsOn self.old keeper.old self.new keeper.new }
     {
-        let Some(event) = self.due(wanted)? else {
+        let Some(due) = self.due(wanted)? else {
             return Err(CoreFault::NotEnabled);
         };
-        self.make(event)?;
-        Ok(())
+        self.make_due(keeper, due)
     }
 
     /// Makes the next event of a program whose next call is this one: the answer of what it has started, or else the first

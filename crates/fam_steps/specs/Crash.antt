@@ -1,0 +1,78 @@
+-- What a crash leaves of a run.
+use Rattle.std.specs.Prelude.{◌≡◌, ◌⊎◌, ℕ, ◌+◌, ◌-◌, ◌^◌, ◌<◌, ◌≤◌, Bool, true, false, List, [], ◌∷◌, ◌++◌, Option, Some, None}
+use Rattle.fam_base.specs.declared.error.FamError.TheVariants as error
+use Rattle.fam_disk.specs.declared.disk.Disk.{Ghosts}
+use Rattle.fam_keeper.specs.Keeping.{Keeps, IsInDoubt, LeavesRows, doubt_of, faults_of}
+use Rattle.fam_keeper.specs.declared.keeper.Keeper.{Keeper}
+use Rattle.fam_model.specs.declared.call.Call.TheVariants as call
+use Rattle.fam_model.specs.declared.change.Change.{Change}
+use Rattle.fam_model.specs.declared.event.Event.{Event}
+use Rattle.fam_model.specs.declared.event.What.{What}
+use Rattle.fam_model.specs.declared.event.What.TheVariants as what
+use Rattle.fam_model.specs.declared.rows.Rows.{Rows}
+use Rattle.fam_model.specs.declared.state.State.{State}
+use Rattle.fam_model.specs.Directory.{after, first_choice}
+use Rattle.fam_model.specs.Earned.{disk_faults}
+use Rattle.fam_model.specs.History.{state_after}
+use Rattle.fam_model.specs.Limits.{service_limits}
+use Rattle.fam_model.specs.Lists.{◌>>=◌}
+use Rattle.fam_model.specs.Programs.{program_of, request_of}
+use Rattle.fam_steps.specs.Steps.{Course, Ran}
+
+-- the change that an event left in doubt: its refusal by the disk says so; a new item has the least fitting base
+abbrev pub doubted_by : State → ℕ → What → Option Change
+doubted_by state pe (what.Refused (call.Meta asked) error.DiskFault true) = do
+  p ← program_of state pe
+  request ← request_of p asked
+  first_choice state.rows p.who request
+doubted_by state pe _ = None
+
+abbrev pub doubted : State → Event → Option Change
+doubted state event = doubted_by state event.pe.0 event.what
+
+-- the rows of a state, or these with the change that the next event left in doubt
+abbrev pub IsLeftBefore : State → List Event → Rows → Type 0
+IsLeftBefore state [] left = left ≡ state.rows
+IsLeftBefore state (event ∷ rest) left = IsInDoubt state.rows (doubted state event) left
+
+-- Rows that a crash may leave of a history: those behind a front of it, or these with the change that the next event left in
+-- doubt.
+pub record IsLeft (start : State) (history : List Event) (left : Rows) : Type 0 where
+  pub front : List Event
+  pub rest : List Event
+  pub parts : history ≡ front ++ rest
+  pub state : State
+  pub reached : state_after service_limits start front ≡ Some state
+  pub left_is : IsLeftBefore state rest left
+
+-- A change is in doubt at the end of a history with these rows: an event left it so, and the rows are still those before it.
+pub record IsDoubted (start : State) (history : List Event) (rows : Rows) (change : Change) : Type 0 where
+  pub front : List Event
+  pub event : Event
+  pub rest : List Event
+  pub parts : history ≡ front ++ event ∷ rest
+  pub state : State
+  pub reached : state_after service_limits start front ≡ Some state
+  pub doubts : doubted state event ≡ Some change
+  pub same : state.rows ≡ rows
+
+-- the rows behind a history, with one change more: memory was wanting for it
+abbrev pub IsUnserved : Bool → Rows → Rows → Type 0
+IsUnserved stopped rows left = (stopped ≡ true) × (change : Change) × (left ≡ after rows change)
+
+-- rows that a crash may leave of a service
+abbrev pub MayBeLeft : State → Course → Bool → Rows → Type 0
+MayBeLeft start course stopped left = IsLeft start course.history left ⊎ IsUnserved stopped course.state.rows left
+
+-- A service that began in a state with a keeper: what its keeper has now, and what a crash has left at each moment since.
+pub record IsKeptRun {D : Type 0} {disk : Ghosts D} (start : State) (first : Keeper D disk) (course : Course) (now : Keeper D disk) : Type 0 where
+  pub kept : Keeps now course.state.rows
+  pub leaves : LeavesRows (MayBeLeft start course now.stopped) first now
+  pub doubt : now.stopped ≡ false → (change : Change) → doubt_of now ≡ Some change → IsDoubted start course.history course.state.rows change
+  pub later : faults_of first ≤ faults_of now
+  pub faults : faults_of now < 2 ^ 64 - 1 → disk_faults (course.history ∷ []) + faults_of first ≤ faults_of now
+
+-- in whichever state it began, and with whichever keeper, this holds still
+abbrev pub KeepsOn : {D : Type 0} {disk : Ghosts D} → Course → Keeper D disk → Course → Keeper D disk → Type 0
+KeepsOn {D} {disk} old before new now =
+    (start : State) (first : Keeper D disk) → Ran start old → IsKeptRun start first old before → IsKeptRun start first new now
