@@ -1,16 +1,14 @@
--- A legal history without refusals for want of room or by a disk is earned.
-use Rattle.std.proofs.Common.{◌≡◌, ℕ, ◌+◌, Bool, true, false, List, [], ◌∷◌, ◌++◌, refl, sym, ◌∙◌, le_refl, add-zero}
-use Rattle.std.specs.Prelude.{◌&&◌, fold, Option, Some, None, if◌then◌else◌}
+-- A legal history without refusals for want of room is earned, over a disk that failed often enough.
+use Rattle.std.proofs.Common.{◌≡◌, ℕ, ◌+◌, ◌<◌, ◌≤◌, Bool, true, false, List, [], ◌∷◌, ◌++◌, refl, sym, ◌∙◌}
+use Rattle.std.specs.Prelude.{◌-◌, ◌^◌, ◌&&◌, Option, Some, None, if◌then◌else◌}
 use Rattle.std.specs.List.{list_all}
 use Rattle.std.specs.Option.{option_map_or}
 use Rattle.fam_base.specs.declared.error.FamError.{FamError}
 use Rattle.fam_base.specs.declared.error.FamError.TheVariants as error
 use Rattle.fam_model.specs.declared.event.Event.{Event}
-use Rattle.fam_model.specs.declared.event.What.{What}
-use Rattle.fam_model.specs.declared.event.What.TheVariants as what
 use Rattle.fam_model.specs.declared.state.ProgramState.{ProgramState}
 use Rattle.fam_model.specs.declared.state.State.{State}
-use Rattle.fam_model.specs.Earned.{Moment, IsEarned, is_earned_from, is_earned_event, is_earned_error, is_disk_fault, error_of}
+use Rattle.fam_model.specs.Earned.{Moment, IsEarned, is_earned_from, is_earned_event, is_earned_error, disk_faults, error_of}
 use Rattle.fam_model.specs.History.{state_after}
 use Rattle.fam_model.specs.Limits.{Limits, service_limits}
 use Rattle.fam_model.specs.Lists.{◌>>=◌}
@@ -32,16 +30,12 @@ tame_error limits moment p event (Some (error.HistoryFull used need)) tame = cc
 tame_error limits moment p event (Some (error.JournalFull used need)) tame = cc
 tame_error limits moment p event (Some e) tame = refl
 
-harmless : (w : What) → is_tame w ≡ true → option_map_or is_harmless (error_of w) true ≡ true
-harmless (what.Refused asked e doubt) tame = cc
-harmless w tame = tame
-
 tame_event : (limits : Limits) (moment : Moment) (event : Event) (p : Option ProgramState) (next : State) → program_of moment.now event.pe.0 ≡ p →
     is_tame event.what ≡ true → step limits moment.now event ≡ Some next → is_earned_event limits moment event ≡ true
 tame_event limits moment event None next e tame steps =
     let stuck : step limits moment.now event ≡ None = rw e refl in
     let no_step : Some next ≡ None = sym steps ∙ stuck in cc
-tame_event limits moment event (Some p) next e tame steps = rw e (tame_error limits moment p event (error_of event.what) (harmless event.what tame))
+tame_event limits moment event (Some p) next e tame steps = rw e (tame_error limits moment p event (error_of event.what) tame)
 
 tame_step : (limits : Limits) (base : State) (before : List Event) (event : Event) (history : List Event) (now last : State) (o : Option State) → step limits now event ≡ o →
     (o >>= λ next. state_after limits next history) ≡ Some last → is_tame event.what ≡ true →
@@ -60,20 +54,10 @@ tame_from limits base before (event ∷ history) now last e tame =
     tame_step limits base before event history now last (step limits now event) refl e parts.0
     (λ next h. tame_from limits base (before ++ event ∷ []) history next last h parts.1)
 
-no_fault : (w : What) → is_tame w ≡ true → is_disk_fault w ≡ false
-no_fault (what.Refused asked e doubt) tame = cc
-no_fault w tame = refl
-
-no_faults : (history : List Event) (n : ℕ) → all_tame history ≡ true → fold (λ a event. a + (if is_disk_fault event.what then 1 else 0)) n history ≡ n
-no_faults [] n tame = refl
-no_faults (event ∷ history) n tame =
-    let parts = and_both (is_tame event.what) (all_tame history) tame in
-    rw (no_fault event.what parts.0, add-zero n) (no_faults history n parts.1)
-
-pub tame_earned : (state last : State) (history : List Event) → state_after service_limits state history ≡ Some last → all_tame history ≡ true →
-    IsEarned service_limits state (history ∷ []) 0 0
-tame_earned state last history e tame =
+pub tame_earned : (state last : State) (history : List Event) (faults_before faults_after : ℕ) → state_after service_limits state history ≡ Some last → all_tame history ≡ true →
+    (faults_after < 2 ^ 64 - 1 → disk_faults (history ∷ []) + faults_before ≤ faults_after) → IsEarned service_limits state (history ∷ []) faults_before faults_after
+tame_earned state last history faults_before faults_after e tame faults =
     record {
       numbers = rw (tame_from service_limits state [] history state last e tame, e) refl;
-      faults = λ low. rw (no_faults history 0 tame) (le_refl 0);
+      faults = faults;
     }
