@@ -101,7 +101,7 @@ DoubtsAfter before change now (Err e) = now ≡ before
 -- a change is refused only where the disk failed
 abbrev pub HasFailed : ℕ → ℕ → Result Kept NoMemory → Type 0
 HasFailed before now (Ok Served) = before ≤ now
-HasFailed before now (Ok (Refused doubt)) = Rose before now
+HasFailed before now (Ok (Refused doubt)) = (before ≤ now) × Rose before now
 HasFailed before now (Err e) = now ≡ before
 
 -- what came of a change of these rows

@@ -3,3 +3,5 @@ pub mod Blocked
 pub mod Pieces
 pub mod Enabled
 pub mod Course
+pub mod Serving
+pub mod Keeping

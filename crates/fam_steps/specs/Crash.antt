@@ -4,27 +4,21 @@ use Rattle.fam_base.specs.declared.error.FamError.TheVariants as error
 use Rattle.fam_disk.specs.declared.disk.Disk.{Ghosts}
 use Rattle.fam_keeper.specs.Keeping.{Keeps, IsInDoubt, LeavesRows, doubt_of, faults_of}
 use Rattle.fam_keeper.specs.declared.keeper.Keeper.{Keeper}
-use Rattle.fam_model.specs.declared.call.Call.TheVariants as call
 use Rattle.fam_model.specs.declared.change.Change.{Change}
 use Rattle.fam_model.specs.declared.event.Event.{Event}
 use Rattle.fam_model.specs.declared.event.What.{What}
 use Rattle.fam_model.specs.declared.event.What.TheVariants as what
 use Rattle.fam_model.specs.declared.rows.Rows.{Rows}
 use Rattle.fam_model.specs.declared.state.State.{State}
-use Rattle.fam_model.specs.Directory.{after, first_choice}
+use Rattle.fam_model.specs.Directory.{after}
 use Rattle.fam_model.specs.Earned.{disk_faults}
 use Rattle.fam_model.specs.History.{state_after}
 use Rattle.fam_model.specs.Limits.{service_limits}
-use Rattle.fam_model.specs.Lists.{◌>>=◌}
-use Rattle.fam_model.specs.Programs.{program_of, request_of}
-use Rattle.fam_steps.specs.Steps.{Course, Ran}
+use Rattle.fam_steps.specs.Steps.{Course, Ran, least_change}
 
 -- the change that an event left in doubt: its refusal by the disk says so; a new item has the least fitting base
 abbrev pub doubted_by : State → ℕ → What → Option Change
-doubted_by state pe (what.Refused (call.Meta asked) error.DiskFault true) = do
-  p ← program_of state pe
-  request ← request_of p asked
-  first_choice state.rows p.who request
+doubted_by state pe (what.Refused asked error.DiskFault true) = least_change state pe (Some asked)
 doubted_by state pe _ = None
 
 abbrev pub doubted : State → Event → Option Change

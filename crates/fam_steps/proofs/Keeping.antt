@@ -1,0 +1,349 @@
+-- What a keeper has, and what a crash has left, behind one event more.
+use Rattle.std.proofs.Common.{◌≡◌, ℕ, ◌+◌, ◌-◌, ◌^◌, ◌<◌, ◌≤◌, Bool, true, false, List, [], ◌∷◌, ◌++◌, refl, sym, ap, ◌∙◌, arith, subst, inl, inr, append_assoc, append-nil}
+use Rattle.std.specs.Prelude.{◌⊎◌, ◌≢◌, min, fold, Option, Some, None, Result, Ok, Err, is_some, if◌then◌else◌}
+use Rattle.std.proofs.lemmas.List.Sums.{fold-append}
+use Rattle.fam_base.specs.Causes.{Rose}
+use Rattle.fam_base.specs.declared.error.FamError.TheVariants as error
+use Rattle.fam_base.specs.declared.error.NoMemory.{NoMemory}
+use Rattle.fam_disk.specs.Crash.{DiskState, LeavesOnly}
+use Rattle.fam_disk.specs.declared.disk.Disk.{Ghosts}
+use Rattle.fam_disk.proofs.Moments.{run_on, weaker}
+use Rattle.fam_keeper.specs.Keeping.{DoubtsAfter, HasFailed, HasKeptIn, HasSome, IsInDoubt, IsTaken, Keeps, HasKeptOrMore, LeavesIn, LeavesRows, MayLeave, doubt_of, faults_in, faults_of, may_count, rows_behind}
+use Rattle.fam_keeper.specs.declared.keeper.Keeper.{Keeper}
+use Rattle.fam_keeper.specs.declared.kept.Kept.{Kept}
+use Rattle.fam_keeper.specs.declared.kept.Kept.TheVariants.{Served, Refused}
+use Rattle.fam_model.specs.declared.call.Call.TheVariants as call
+use Rattle.fam_model.specs.declared.call.MetaCall.{MetaCall}
+use Rattle.fam_model.specs.declared.change.Change.{Change}
+use Rattle.fam_model.specs.declared.event.Event.{Event}
+use Rattle.fam_model.specs.declared.event.What.{What}
+use Rattle.fam_model.specs.declared.event.What.TheVariants as what
+use Rattle.fam_model.specs.declared.reply.Reply.{Reply}
+use Rattle.fam_model.specs.declared.rows.Rows.{Rows}
+use Rattle.fam_model.specs.declared.state.State.{State}
+use Rattle.fam_model.specs.Directory.{after}
+use Rattle.fam_model.specs.Earned.{disk_faults, is_disk_fault}
+use Rattle.fam_model.specs.History.{change_in, change_served, state_after}
+use Rattle.fam_model.specs.Limits.{service_limits}
+use Rattle.fam_model.specs.Turn.{call_made}
+use Rattle.meta_journal.specs.Reading.{HasRows}
+use Rattle.meta_journal.specs.declared.journal.Journal.{Journal}
+use Rattle.fam_steps.specs.Steps.{Course, IsDue, Makes, Ran, come, least_change, refused_what}
+use Rattle.fam_steps.specs.Crash.{IsDoubted, IsKeptRun, IsLeft, IsLeftBefore, IsUnserved, KeepsOn, MayBeLeft, doubted, doubted_by}
+use Rattle.fam_steps.proofs.Course.{goes_on}
+use Rattle.fam_steps.proofs.Serving.{rows_by, step_rows}
+
+-- what a crash leaves on one disk
+
+pub runs_on : {D : Type 0} {disk : Ghosts D} (P : Rows → Type 0) (a b c : Option (Journal D disk)) → LeavesIn P a b → LeavesIn P b c → LeavesIn P a c
+runs_on P None None None first second = tt
+runs_on P None None (Some c) first second = second
+runs_on P None (Some b) c first second = absurd first
+runs_on P (Some a) None c first second = absurd first
+runs_on P (Some a) (Some b) None first second = second
+runs_on {D} {disk} P (Some a) (Some b) (Some c) first second = run_on (HasSome P) (disk.state a.disk) (disk.state b.disk) (disk.state c.disk) first second
+
+pub weaker_rows : {D : Type 0} {disk : Ghosts D} (P Q : Rows → Type 0) (a b : Option (Journal D disk)) → ((rows : Rows) → P rows → Q rows) → LeavesIn P a b → LeavesIn Q a b
+weaker_rows P Q None None leads run = tt
+weaker_rows P Q None (Some b) leads run = run
+weaker_rows P Q (Some a) None leads run = run
+weaker_rows {D} {disk} P Q (Some a) (Some b) leads run =
+    weaker (HasSome P) (HasSome Q) (disk.state a.disk) (disk.state b.disk) run (λ image has. (has.0, leads has.0 has.1, has.2))
+
+-- a longer history
+
+left_longer : (state : State) (rest : List Event) (event : Event) (left : Rows) → IsLeftBefore state rest left → IsLeftBefore state (rest ++ event ∷ []) left
+left_longer state [] event left is = inl is
+left_longer state (e ∷ rest) event left is = is
+
+longer : (start : State) (history : List Event) (event : Event) (left : Rows) → IsLeft start history left → IsLeft start (history ++ event ∷ []) left
+longer start history event left l =
+    record {
+      front = l.front;
+      rest = l.rest ++ event ∷ [];
+      parts = ap (λ xs. xs ++ event ∷ []) l.parts ∙ append_assoc l.front l.rest (event ∷ []);
+      state = l.state;
+      reached = l.reached;
+      left_is = left_longer l.state l.rest event left l.left_is;
+    }
+
+doubted_longer : (start : State) (history : List Event) (event : Event) (rows now : Rows) (change : Change) → now ≡ rows → IsDoubted start history rows change → IsDoubted start (history ++ event ∷ []) now change
+doubted_longer start history event rows now change same d =
+    record {
+      front = d.front;
+      event = d.event;
+      rest = d.rest ++ event ∷ [];
+      parts = ap (λ xs. xs ++ event ∷ []) d.parts ∙ append_assoc d.front (d.event ∷ d.rest) (event ∷ []);
+      state = d.state;
+      reached = d.reached;
+      doubts = d.doubts;
+      same = d.same ∙ sym same;
+    }
+
+-- the rows with a change in doubt
+left_in_doubt : (start : State) (history : List Event) (rows left : Rows) (change : Change) → IsDoubted start history rows change → left ≡ after rows change → IsLeft start history left
+left_in_doubt start history rows left change d is =
+    record {
+      front = d.front;
+      rest = d.event ∷ d.rest;
+      parts = d.parts;
+      state = d.state;
+      reached = d.reached;
+      left_is = inr (change, d.doubts, is ∙ ap (λ r. after r change) (sym d.same));
+    }
+
+-- the rows at the end
+left_at_end : (start : State) (course : Course) (left : Rows) → Ran start course → left ≡ course.state.rows → IsLeft start course.history left
+left_at_end start course left ran is =
+    record { front = course.history; rest = []; parts = sym (append-nil course.history); state = course.state; reached = ran; left_is = is }
+
+-- those before the last event, with the change that it left in doubt
+left_by_last : (start : State) (old : Course) (event : Event) (left : Rows) (change : Change) → Ran start old → doubted old.state event ≡ Some change → left ≡ after old.state.rows change →
+    IsLeft start (old.history ++ event ∷ []) left
+left_by_last start old event left change ran doubts is =
+    record { front = old.history; rest = event ∷ []; parts = refl; state = old.state; reached = ran; left_is = inr (change, doubts, is) }
+
+-- what may be left of a service
+
+module _ {D : Type 0} {disk : Ghosts D} (start : State) (first : Keeper D disk) (old : Course) (before : Keeper D disk) (ran : Ran start old) (run : IsKeptRun start first old before) where
+  -- rows that are left before a change is kept
+  pub left_before : before.stopped ≡ false → (left : Rows) → IsInDoubt old.state.rows (doubt_of before) left → IsLeft start old.history left
+  left_before level left (inl is) = left_at_end start old left ran is
+  left_before level left (inr (change, doubts, is)) = left_in_doubt start old.history old.state.rows left change (run.doubt level change doubts) is
+
+-- faults
+
+abbrev pub counts : ℕ → Event → ℕ
+counts n event = n + (if is_disk_fault event.what then 1 else 0)
+
+pub faults_longer : (history : List Event) (event : Event) (b : Bool) → is_disk_fault event.what ≡ b → disk_faults ((history ++ event ∷ []) ∷ []) ≡ disk_faults (history ∷ []) + (if b then 1 else 0)
+faults_longer history event b e =
+    let all : fold counts 0 (history ++ event ∷ []) ≡ fold counts (fold counts 0 history) (event ∷ []) = fold-append counts 0 history (event ∷ []) in
+    let last : fold counts (fold counts 0 history) (event ∷ []) ≡ fold counts 0 history + (if b then 1 else 0) = ap (λ x. fold counts 0 history + (if x then 1 else 0)) e in
+    omega (arith, all, last)
+
+-- nothing was done
+
+pub stays_kept : {D : Type 0} {disk : Ghosts D} (old new : Course) (keeper : Keeper D disk) → new ≡ old → KeepsOn old keeper new keeper
+stays_kept old new keeper same start first ran run = subst (λ c. IsKeptRun start first c keeper) (sym same) run
+
+-- an event that serves no change
+
+pub quiet_on : {D : Type 0} {disk : Ghosts D} (old new : Course) (event : Event) (keeper : Keeper D disk) → Makes old event new → change_served old.state event ≡ None → is_disk_fault event.what ≡ false →
+    KeepsOn old keeper new keeper
+quiet_on old new event keeper makes quiet calm start first ran run =
+    let rows : new.state.rows ≡ old.state.rows = step_rows old.state event new.state makes.steps ∙ ap (rows_by old.state.rows) quiet in
+    let faults : disk_faults (new.history ∷ []) ≡ disk_faults (old.history ∷ []) + 0 = ap (λ h. disk_faults (h ∷ [])) makes.kept ∙ faults_longer old.history event false calm in
+    record {
+      kept = subst (Keeps keeper) (sym rows) run.kept;
+      leaves = weaker_rows (MayBeLeft start old keeper.stopped) (MayBeLeft start new keeper.stopped) first.journal keeper.journal
+          (λ left is. elim is [
+            | inl l ↦ inl (subst (λ h. IsLeft start h left) (sym makes.kept) (longer start old.history event left l))
+            | inr u ↦ inr (u.0, u.1, u.2 ∙ ap (λ r. after r u.1) (sym rows))
+          ]) run.leaves;
+      doubt = λ level change doubts. subst (λ h. IsDoubted start h new.state.rows change) (sym makes.kept)
+          (doubted_longer start old.history event old.state.rows new.state.rows change rows (run.doubt level change doubts));
+      later = run.later;
+      faults = λ low. let n = run.faults low in omega (arith, faults);
+    }
+
+-- an event that would serve a change
+
+-- it is a call on the directory
+pub record OfCall (state : State) (due : Event) : Type 0 where
+  pub asked : MetaCall
+  pub given : Reply
+  pub is : due.what ≡ what.Meta asked given
+
+pub serves_call : (state : State) (pe : ℕ) (w : What) (change : Change) → change_in state pe w ≡ Some change → (asked : MetaCall) × (given : Reply) × (w ≡ what.Meta asked given)
+serves_call state pe (what.Meta asked given) change h = (asked, given, refl)
+serves_call state pe (what.Issue asked given) change h = cc
+serves_call state pe (what.Piece piece given) change h = cc
+serves_call state pe (what.Answer given) change h = cc
+serves_call state pe (what.OpenContext context) change h = cc
+serves_call state pe (what.CloseContext context given) change h = cc
+serves_call state pe (what.Fence context) change h = cc
+serves_call state pe (what.Quiet context given) change h = cc
+serves_call state pe (what.Wait context named given) change h = cc
+serves_call state pe what.Arrive change h = cc
+serves_call state pe what.Leave change h = cc
+serves_call state pe what.Crash change h = cc
+serves_call state pe (what.Lose piece) change h = cc
+serves_call state pe (what.Refused asked e doubt) change h = cc
+
+-- the refusal serves nothing, and says that the disk failed
+refused_serves : (state : State) (pe : ℕ) (w : What) (doubt : Bool) (change : Change) → change_in state pe w ≡ Some change → change_in state pe (refused_what w doubt) ≡ None
+refused_serves state pe w doubt change h =
+    let c = serves_call state pe w change h in
+    ap (λ v. change_in state pe (refused_what v doubt)) c.2
+
+refused_fault : (state : State) (pe : ℕ) (w : What) (doubt : Bool) (change : Change) → change_in state pe w ≡ Some change → is_disk_fault (refused_what w doubt) ≡ true
+refused_fault state pe w doubt change h = let c = serves_call state pe w change h in ap (λ v. is_disk_fault (refused_what v doubt)) c.2
+
+-- it leaves the change in doubt where it says so
+refused_doubts : (state : State) (due : Event) (change : Change) → IsDue state due → change_served state due ≡ Some change → doubted state (come due (Refused true)) ≡ Some change
+refused_doubts state due change is h =
+    let c = serves_call state due.pe.0 due.what change h in
+    ap (λ v. doubted_by state due.pe.0 (refused_what v true)) c.2
+    ∙ ap (λ v. least_change state due.pe.0 (call_made v)) (sym c.2)
+    ∙ is.least change h
+
+rose_more : (before now : ℕ) → Rose before now → now < 2 ^ 64 - 1 → before + 1 ≤ now
+rose_more before now rose low = omega (arith, rose, low)
+
+same_change : (a b : Change) → Some a ≡ Some b → a ≡ b
+same_change a b h = cc
+
+none_some : (a : Change) → None ≡ Some a → ⊥
+none_some a h = cc
+
+module _ {D : Type 0} {disk : Ghosts D} (old new : Course) (due : Event) (before now : Keeper D disk) (change : Change) (is_due : IsDue old.state due) (serves : change_served old.state due ≡ Some change) (level : before.stopped ≡ false) where
+  -- the change was kept, and served
+  pub served_on : Makes old due new → IsTaken old.state.rows change before now (Ok Served) → KeepsOn old before new now
+  served_on makes taken start first ran run =
+      let rows : new.state.rows ≡ after old.state.rows change = step_rows old.state due new.state makes.steps ∙ ap (rows_by old.state.rows) serves in
+      let ran_new = goes_on old new due makes start ran in
+      let faults : disk_faults (new.history ∷ []) ≡ disk_faults (old.history ∷ []) + 0 = ap (λ h. disk_faults (h ∷ [])) makes.kept ∙ faults_longer old.history due false is_due.calm in
+      let cause : faults_of before ≤ faults_of now = taken.cause in
+      let stays : (left : Rows) → IsLeft start old.history left → MayBeLeft start new now.stopped left =
+      λ left l. inl (subst (λ h. IsLeft start h left) (sym makes.kept) (longer start old.history due left l)) in
+      record {
+        kept = subst (λ s. HasKeptOrMore now.journal s new.state.rows) (sym taken.goes_on) (subst (HasKeptIn now.journal) (sym rows) taken.kept);
+        leaves = runs_on (MayBeLeft start new now.stopped) first.journal before.journal now.journal
+            (weaker_rows (MayBeLeft start old before.stopped) (MayBeLeft start new now.stopped) first.journal before.journal
+            (λ left is. elim is [
+              | inl l ↦ stays left l
+              | inr u ↦ absurd (true_false (sym u.0 ∙ level))
+            ]) run.leaves)
+            (weaker_rows (MayLeave old.state.rows (doubt_of before) true change) (MayBeLeft start new now.stopped) before.journal now.journal
+            (λ left is. elim is [
+              | inl l ↦ stays left (left_before start first old before ran run level left l)
+              | inr n ↦ inl (left_at_end start new left ran_new (n.1 ∙ sym rows))
+            ]) taken.leaves);
+        doubt = λ goes other doubts. absurd (none_some other (sym taken.doubt ∙ doubts));
+        later = omega (arith, run.later, cause);
+        faults = λ low. let n = run.faults (omega (arith, cause, low)) in omega (arith, faults, cause);
+      }
+    where
+      true_false : true ≡ false → ⊥
+      true_false e = cc
+
+  -- the disk refused it
+  pub refused_on : (doubt : Bool) → Makes old (come due (Refused doubt)) new → IsTaken old.state.rows change before now (Ok (Refused doubt)) → KeepsOn old before new now
+  refused_on doubt makes taken start first ran run =
+      let event = come due (Refused doubt) in
+      let nothing : change_served old.state event ≡ None = refused_serves old.state due.pe.0 due.what doubt change serves in
+      let rows : new.state.rows ≡ old.state.rows = step_rows old.state event new.state makes.steps ∙ ap (rows_by old.state.rows) nothing in
+      let faults : disk_faults (new.history ∷ []) ≡ disk_faults (old.history ∷ []) + 1 =
+      ap (λ h. disk_faults (h ∷ [])) makes.kept ∙ faults_longer old.history event true (refused_fault old.state due.pe.0 due.what doubt change serves) in
+      let rose : Rose (faults_of before) (faults_of now) = taken.cause.1 in
+      let cause : faults_of before ≤ faults_of now = taken.cause.0 in
+      let stays : (left : Rows) → IsLeft start old.history left → MayBeLeft start new now.stopped left =
+      λ left l. inl (subst (λ h. IsLeft start h left) (sym makes.kept) (longer start old.history event left l)) in
+      record {
+        kept = subst (λ s. HasKeptOrMore now.journal s new.state.rows) (sym taken.goes_on) (subst (HasKeptIn now.journal) (sym rows) taken.kept);
+        leaves = runs_on (MayBeLeft start new now.stopped) first.journal before.journal now.journal
+            (weaker_rows (MayBeLeft start old before.stopped) (MayBeLeft start new now.stopped) first.journal before.journal
+            (λ left is. elim is [
+              | inl l ↦ stays left l
+              | inr u ↦ absurd (true_false (sym u.0 ∙ level))
+            ]) run.leaves)
+            (weaker_rows (MayLeave old.state.rows (doubt_of before) doubt change) (MayBeLeft start new now.stopped) before.journal now.journal
+            (λ left is. elim is [
+              | inl l ↦ stays left (left_before start first old before ran run level left l)
+              | inr n ↦ inl (subst (λ h. IsLeft start h left) (sym makes.kept)
+                (left_by_last start old event left change ran (ap (λ d. doubted old.state (come due (Refused d))) n.0 ∙ refused_doubts old.state due change is_due serves) n.1))
+            ]) taken.leaves);
+        doubt = λ goes other doubts. subst (λ h. IsDoubted start h new.state.rows other) (sym makes.kept) (by_doubt doubt refl other doubts taken.doubt rows);
+        later = omega (arith, run.later, cause);
+        faults = λ low.
+            let more = rose_more (faults_of before) (faults_of now) rose low in
+            let n = run.faults (omega (arith, more, low)) in omega (arith, faults, more);
+      }
+    where
+      true_false : true ≡ false → ⊥
+      true_false e = cc
+
+      by_doubt : (d : Bool) → d ≡ doubt → (other : Change) → doubt_of now ≡ Some other → DoubtsAfter (doubt_of before) change (doubt_of now) (Ok (Refused d)) → new.state.rows ≡ old.state.rows →
+          IsDoubted start (old.history ++ come due (Refused doubt) ∷ []) new.state.rows other
+      by_doubt true same other doubts after_it rows =
+          let is : change ≡ other = same_change change other (sym after_it ∙ doubts) in
+          record {
+            front = old.history;
+            event = come due (Refused doubt);
+            rest = [];
+            parts = refl;
+            state = old.state;
+            reached = ran;
+            doubts = ap (λ d. doubted old.state (come due (Refused d))) (sym same) ∙ refused_doubts old.state due change is_due serves ∙ ap Some is;
+            same = sym rows;
+          }
+      by_doubt false same other doubts (apart, after_it) rows =
+          elim after_it [
+            | inl kept ↦ doubted_longer start old.history (come due (Refused doubt)) old.state.rows new.state.rows other rows (run.doubt level other (sym kept ∙ doubts))
+            | inr none ↦ absurd (none_some other (sym none ∙ doubts))
+          ]
+
+-- memory was wanting
+
+module _ {D : Type 0} {disk : Ghosts D} (old : Course) (before now : Keeper D disk) (change : Change) (level : before.stopped ≡ false) where
+  -- before the change was kept
+  pub unkept_on : (e : NoMemory) → IsTaken old.state.rows change before now (Err e) → KeepsOn old before old now
+  unkept_on e taken start first ran run =
+      record {
+        kept = subst (λ s. HasKeptOrMore now.journal s old.state.rows) (sym taken.goes_on) taken.kept;
+        leaves = runs_on (MayBeLeft start old now.stopped) first.journal before.journal now.journal
+            (weaker_rows (MayBeLeft start old before.stopped) (MayBeLeft start old now.stopped) first.journal before.journal
+            (λ left is. elim is [
+              | inl l ↦ inl l
+              | inr u ↦ absurd (true_false (sym u.0 ∙ level))
+            ]) run.leaves)
+            (weaker_rows (MayLeave old.state.rows (doubt_of before) false change) (MayBeLeft start old now.stopped) before.journal now.journal
+            (λ left is. elim is [
+              | inl l ↦ inl (left_before start first old before ran run level left l)
+              | inr n ↦ absurd (true_false (sym n.0))
+            ]) taken.leaves);
+        doubt = λ goes other doubts. run.doubt level other (sym taken.doubt ∙ doubts);
+        later = omega (arith, run.later, taken.cause);
+        faults = λ low. let n = run.faults (omega (arith, taken.cause, low)) in omega (arith, taken.cause, n);
+      }
+    where
+      true_false : true ≡ false → ⊥
+      true_false e = cc
+
+later_by : (before now : ℕ) (kept : Kept) → HasFailed before now (Ok kept) → before ≤ now
+later_by before now Served failed = failed
+later_by before now (Refused doubt) failed = failed.0
+
+module _ {D : Type 0} {disk : Ghosts D} (old : Course) (before mid now : Keeper D disk) (change : Change) (level : before.stopped ≡ false) where
+  -- behind the change that was kept: nothing more is kept then
+  pub stopped_on : (kept : Kept) → IsTaken old.state.rows change before mid (Ok kept) → now.journal ≡ mid.journal → now.stopped ≡ true → KeepsOn old before old now
+  stopped_on kept taken same stopped start first ran run =
+      let later : faults_of before ≤ faults_of mid = later_by (faults_of before) (faults_of mid) kept taken.cause in
+      let faults : faults_of now ≡ faults_of mid = ap faults_in same in
+      record {
+        kept = subst (λ s. HasKeptOrMore now.journal s old.state.rows) (sym stopped)
+            (subst (λ j. HasKeptOrMore j true old.state.rows) (sym same) (by_kept kept taken.kept));
+        leaves = runs_on (MayBeLeft start old now.stopped) first.journal before.journal now.journal
+            (weaker_rows (MayBeLeft start old before.stopped) (MayBeLeft start old now.stopped) first.journal before.journal
+            (λ left is. elim is [
+              | inl l ↦ inl l
+              | inr u ↦ absurd (true_false (sym u.0 ∙ level))
+            ]) run.leaves)
+            (subst (LeavesIn (MayBeLeft start old now.stopped) before.journal) (sym same)
+            (weaker_rows (MayLeave old.state.rows (doubt_of before) (may_count (Ok kept)) change) (MayBeLeft start old now.stopped) before.journal mid.journal
+            (λ left is. elim is [
+              | inl l ↦ inl (left_before start first old before ran run level left l)
+              | inr n ↦ inr (stopped, change, n.1)
+            ]) taken.leaves));
+        doubt = λ goes. absurd (true_false (sym stopped ∙ goes));
+        later = omega (arith, run.later, later, faults);
+        faults = λ low. let n = run.faults (omega (arith, later, faults, low)) in omega (arith, later, faults, n);
+      }
+    where
+      true_false : true ≡ false → ⊥
+      true_false e = cc
+
+      by_kept : (k : Kept) → HasKeptIn mid.journal (rows_behind old.state.rows change (Ok k)) → HasKeptOrMore mid.journal true old.state.rows
+      by_kept Served has = inr (change, has)
+      by_kept (Refused doubt) has = inl has
