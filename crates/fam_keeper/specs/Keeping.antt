@@ -9,7 +9,6 @@ use Rattle.fam_model.specs.declared.rows.Rows.{Rows}
 use Rattle.fam_model.specs.Directory.{after}
 use Rattle.fam_model.specs.Journal.{rows_of}
 use Rattle.fam_model.specs.Limits.{service_limits}
-use Rattle.fam_model.specs.Lists.{◌>>=◌}
 use Rattle.meta_journal.specs.Reading.{HasRows}
 use Rattle.meta_journal.specs.State.{IsSound, acknowledged, change_in_doubt}
 use Rattle.meta_journal.specs.declared.journal.Journal.{Journal}
@@ -30,17 +29,22 @@ abbrev pub HasKeptIn : {D : Type 0} {disk : Ghosts D} → Option (Journal D disk
 HasKeptIn None rows = Unit {0}
 HasKeptIn (Some journal) rows = HasKept journal rows
 
+-- the change that a crash may leave beside what was kept
+abbrev pub doubt_in : {D : Type 0} {disk : Ghosts D} → Option (Journal D disk) → Option Change
+doubt_in None = None
+doubt_in (Some journal) = change_in_doubt journal.doubt
+
 -- A keeper has kept the changes that lead to these rows. One that was stopped may have kept one change more.
 abbrev pub HasKeptOrMore : {D : Type 0} {disk : Ghosts D} → Option (Journal D disk) → Bool → Rows → Type 0
 HasKeptOrMore journal false rows = HasKeptIn journal rows
-HasKeptOrMore journal true rows = HasKeptIn journal rows ⊎ ((change : Change) × HasKeptIn journal (after rows change))
+HasKeptOrMore journal true rows =
+    HasKeptIn journal rows ⊎ ((change : Change) × HasKeptIn journal (after rows change) × (doubt_in journal ≡ None))
 
 abbrev pub Keeps : {D : Type 0} {disk : Ghosts D} → Keeper D disk → Rows → Type 0
 Keeps keeper rows = HasKeptOrMore keeper.journal keeper.stopped rows
 
--- the change that a crash may leave beside what was kept
 abbrev pub doubt_of : {D : Type 0} {disk : Ghosts D} → Keeper D disk → Option Change
-doubt_of keeper = keeper.journal >>= λ journal. change_in_doubt journal.doubt
+doubt_of keeper = doubt_in keeper.journal
 
 -- faults
 

@@ -75,6 +75,11 @@ impl<D: Disk> Keeper<D> {
         }
     }
 
+    /// A crash leaves what was kept, or this and the change in doubt. Says so, and does nothing.
+    pub fn leaves_what_was_kept(&self)
+        ensures { (rows : Rows) → keeping.HasKeptIn self.now.journal rows → keeping.LeavesRows (keeping.IsInDoubt rows (keeping.doubt_of self.now)) self.now self.now }
+    {}
+
     /// Closes what is in doubt, so that each crash leaves what was kept alone. Where the disk fails the doubt stays.
     pub fn settle(&mut self)
         requires { (rows : Rows) × keeping.HasKeptIn self.old.journal rows }

@@ -8,7 +8,7 @@ use Rattle.fam_base.specs.declared.error.NoMemory.{NoMemory}
 use Rattle.fam_disk.specs.Crash.{DiskState, LeavesOnly}
 use Rattle.fam_disk.specs.declared.disk.Disk.{Ghosts}
 use Rattle.fam_disk.proofs.Moments.{run_on, weaker}
-use Rattle.fam_keeper.specs.Keeping.{DoubtsAfter, HasFailed, HasKeptIn, HasSome, IsInDoubt, IsTaken, Keeps, HasKeptOrMore, LeavesIn, LeavesRows, MayLeave, doubt_of, faults_in, faults_of, may_count, rows_behind}
+use Rattle.fam_keeper.specs.Keeping.{DoubtsAfter, HasFailed, HasKeptIn, HasSome, IsInDoubt, IsSettled, IsTaken, Keeps, HasKeptOrMore, LeavesIn, LeavesRows, MayLeave, doubt_of, faults_in, faults_of, may_count, rows_behind}
 use Rattle.fam_keeper.specs.declared.keeper.Keeper.{Keeper}
 use Rattle.fam_keeper.specs.declared.kept.Kept.{Kept}
 use Rattle.fam_keeper.specs.declared.kept.Kept.TheVariants.{Served, Refused}
@@ -105,10 +105,10 @@ left_by_last start old event left change ran doubts is =
 
 -- what may be left of a service
 
-module _ {D : Type 0} {disk : Ghosts D} (start : State) (first : Keeper D disk) (old : Course) (before : Keeper D disk) (ran : Ran start old) (run : IsKeptRun start first old before) where
+module _ {D : Type 0} {disk : Ghosts D} (start : State) (first : Keeper D disk) (old : Course) (before : Keeper D disk) (run : IsKeptRun start first old before) where
   -- rows that are left before a change is kept
   pub left_before : before.stopped ≡ false → (left : Rows) → IsInDoubt old.state.rows (doubt_of before) left → IsLeft start old.history left
-  left_before level left (inl is) = left_at_end start old left ran is
+  left_before level left (inl is) = left_at_end start old left run.ran is
   left_before level left (inr (change, doubts, is)) = left_in_doubt start old.history old.state.rows left change (run.doubt level change doubts) is
 
 -- faults
@@ -125,16 +125,17 @@ faults_longer history event b e =
 -- nothing was done
 
 pub stays_kept : {D : Type 0} {disk : Ghosts D} (old new : Course) (keeper : Keeper D disk) → new ≡ old → KeepsOn old keeper new keeper
-stays_kept old new keeper same start first ran run = subst (λ c. IsKeptRun start first c keeper) (sym same) run
+stays_kept old new keeper same start first run = subst (λ c. IsKeptRun start first c keeper) (sym same) run
 
 -- an event that serves no change
 
 pub quiet_on : {D : Type 0} {disk : Ghosts D} (old new : Course) (event : Event) (keeper : Keeper D disk) → Makes old event new → change_served old.state event ≡ None → is_disk_fault event.what ≡ false →
     KeepsOn old keeper new keeper
-quiet_on old new event keeper makes quiet calm start first ran run =
+quiet_on old new event keeper makes quiet calm start first run =
     let rows : new.state.rows ≡ old.state.rows = step_rows old.state event new.state makes.steps ∙ ap (rows_by old.state.rows) quiet in
     let faults : disk_faults (new.history ∷ []) ≡ disk_faults (old.history ∷ []) + 0 = ap (λ h. disk_faults (h ∷ [])) makes.kept ∙ faults_longer old.history event false calm in
     record {
+      ran = goes_on old new event makes start run.ran;
       kept = subst (Keeps keeper) (sym rows) run.kept;
       leaves = weaker_rows (MayBeLeft start old keeper.stopped) (MayBeLeft start new keeper.stopped) first.journal keeper.journal
           (λ left is. elim is [
@@ -200,14 +201,15 @@ none_some a h = cc
 module _ {D : Type 0} {disk : Ghosts D} (old new : Course) (due : Event) (before now : Keeper D disk) (change : Change) (is_due : IsDue old.state due) (serves : change_served old.state due ≡ Some change) (level : before.stopped ≡ false) where
   -- the change was kept, and served
   pub served_on : Makes old due new → IsTaken old.state.rows change before now (Ok Served) → KeepsOn old before new now
-  served_on makes taken start first ran run =
+  served_on makes taken start first run =
       let rows : new.state.rows ≡ after old.state.rows change = step_rows old.state due new.state makes.steps ∙ ap (rows_by old.state.rows) serves in
-      let ran_new = goes_on old new due makes start ran in
+      let ran_new = goes_on old new due makes start run.ran in
       let faults : disk_faults (new.history ∷ []) ≡ disk_faults (old.history ∷ []) + 0 = ap (λ h. disk_faults (h ∷ [])) makes.kept ∙ faults_longer old.history due false is_due.calm in
       let cause : faults_of before ≤ faults_of now = taken.cause in
       let stays : (left : Rows) → IsLeft start old.history left → MayBeLeft start new now.stopped left =
       λ left l. inl (subst (λ h. IsLeft start h left) (sym makes.kept) (longer start old.history due left l)) in
       record {
+        ran = ran_new;
         kept = subst (λ s. HasKeptOrMore now.journal s new.state.rows) (sym taken.goes_on) (subst (HasKeptIn now.journal) (sym rows) taken.kept);
         leaves = runs_on (MayBeLeft start new now.stopped) first.journal before.journal now.journal
             (weaker_rows (MayBeLeft start old before.stopped) (MayBeLeft start new now.stopped) first.journal before.journal
@@ -217,7 +219,7 @@ module _ {D : Type 0} {disk : Ghosts D} (old new : Course) (due : Event) (before
             ]) run.leaves)
             (weaker_rows (MayLeave old.state.rows (doubt_of before) true change) (MayBeLeft start new now.stopped) before.journal now.journal
             (λ left is. elim is [
-              | inl l ↦ stays left (left_before start first old before ran run level left l)
+              | inl l ↦ stays left (left_before start first old before run level left l)
               | inr n ↦ inl (left_at_end start new left ran_new (n.1 ∙ sym rows))
             ]) taken.leaves);
         doubt = λ goes other doubts. absurd (none_some other (sym taken.doubt ∙ doubts));
@@ -230,7 +232,7 @@ module _ {D : Type 0} {disk : Ghosts D} (old new : Course) (due : Event) (before
 
   -- the disk refused it
   pub refused_on : (doubt : Bool) → Makes old (come due (Refused doubt)) new → IsTaken old.state.rows change before now (Ok (Refused doubt)) → KeepsOn old before new now
-  refused_on doubt makes taken start first ran run =
+  refused_on doubt makes taken start first run =
       let event = come due (Refused doubt) in
       let nothing : change_served old.state event ≡ None = refused_serves old.state due.pe.0 due.what doubt change serves in
       let rows : new.state.rows ≡ old.state.rows = step_rows old.state event new.state makes.steps ∙ ap (rows_by old.state.rows) nothing in
@@ -241,6 +243,7 @@ module _ {D : Type 0} {disk : Ghosts D} (old new : Course) (due : Event) (before
       let stays : (left : Rows) → IsLeft start old.history left → MayBeLeft start new now.stopped left =
       λ left l. inl (subst (λ h. IsLeft start h left) (sym makes.kept) (longer start old.history event left l)) in
       record {
+        ran = goes_on old new event makes start run.ran;
         kept = subst (λ s. HasKeptOrMore now.journal s new.state.rows) (sym taken.goes_on) (subst (HasKeptIn now.journal) (sym rows) taken.kept);
         leaves = runs_on (MayBeLeft start new now.stopped) first.journal before.journal now.journal
             (weaker_rows (MayBeLeft start old before.stopped) (MayBeLeft start new now.stopped) first.journal before.journal
@@ -250,9 +253,9 @@ module _ {D : Type 0} {disk : Ghosts D} (old new : Course) (due : Event) (before
             ]) run.leaves)
             (weaker_rows (MayLeave old.state.rows (doubt_of before) doubt change) (MayBeLeft start new now.stopped) before.journal now.journal
             (λ left is. elim is [
-              | inl l ↦ stays left (left_before start first old before ran run level left l)
+              | inl l ↦ stays left (left_before start first old before run level left l)
               | inr n ↦ inl (subst (λ h. IsLeft start h left) (sym makes.kept)
-                (left_by_last start old event left change ran (ap (λ d. doubted old.state (come due (Refused d))) n.0 ∙ refused_doubts old.state due change is_due serves) n.1))
+                (left_by_last start old event left change run.ran (ap (λ d. doubted old.state (come due (Refused d))) n.0 ∙ refused_doubts old.state due change is_due serves) n.1))
             ]) taken.leaves);
         doubt = λ goes other doubts. subst (λ h. IsDoubted start h new.state.rows other) (sym makes.kept) (by_doubt doubt refl other doubts taken.doubt rows);
         later = omega (arith, run.later, cause);
@@ -274,7 +277,7 @@ module _ {D : Type 0} {disk : Ghosts D} (old new : Course) (due : Event) (before
             rest = [];
             parts = refl;
             state = old.state;
-            reached = ran;
+            reached = run.ran;
             doubts = ap (λ d. doubted old.state (come due (Refused d))) (sym same) ∙ refused_doubts old.state due change is_due serves ∙ ap Some is;
             same = sym rows;
           }
@@ -289,8 +292,9 @@ module _ {D : Type 0} {disk : Ghosts D} (old new : Course) (due : Event) (before
 module _ {D : Type 0} {disk : Ghosts D} (old : Course) (before now : Keeper D disk) (change : Change) (level : before.stopped ≡ false) where
   -- before the change was kept
   pub unkept_on : (e : NoMemory) → IsTaken old.state.rows change before now (Err e) → KeepsOn old before old now
-  unkept_on e taken start first ran run =
+  unkept_on e taken start first run =
       record {
+        ran = run.ran;
         kept = subst (λ s. HasKeptOrMore now.journal s old.state.rows) (sym taken.goes_on) taken.kept;
         leaves = runs_on (MayBeLeft start old now.stopped) first.journal before.journal now.journal
             (weaker_rows (MayBeLeft start old before.stopped) (MayBeLeft start old now.stopped) first.journal before.journal
@@ -300,7 +304,7 @@ module _ {D : Type 0} {disk : Ghosts D} (old : Course) (before now : Keeper D di
             ]) run.leaves)
             (weaker_rows (MayLeave old.state.rows (doubt_of before) false change) (MayBeLeft start old now.stopped) before.journal now.journal
             (λ left is. elim is [
-              | inl l ↦ inl (left_before start first old before ran run level left l)
+              | inl l ↦ inl (left_before start first old before run level left l)
               | inr n ↦ absurd (true_false (sym n.0))
             ]) taken.leaves);
         doubt = λ goes other doubts. run.doubt level other (sym taken.doubt ∙ doubts);
@@ -318,12 +322,13 @@ later_by before now (Refused doubt) failed = failed.0
 module _ {D : Type 0} {disk : Ghosts D} (old : Course) (before mid now : Keeper D disk) (change : Change) (level : before.stopped ≡ false) where
   -- behind the change that was kept: nothing more is kept then
   pub stopped_on : (kept : Kept) → IsTaken old.state.rows change before mid (Ok kept) → now.journal ≡ mid.journal → now.stopped ≡ true → KeepsOn old before old now
-  stopped_on kept taken same stopped start first ran run =
+  stopped_on kept taken same stopped start first run =
       let later : faults_of before ≤ faults_of mid = later_by (faults_of before) (faults_of mid) kept taken.cause in
       let faults : faults_of now ≡ faults_of mid = ap faults_in same in
       record {
+        ran = run.ran;
         kept = subst (λ s. HasKeptOrMore now.journal s old.state.rows) (sym stopped)
-            (subst (λ j. HasKeptOrMore j true old.state.rows) (sym same) (by_kept kept taken.kept));
+            (subst (λ j. HasKeptOrMore j true old.state.rows) (sym same) (by_kept kept taken.kept taken.doubt));
         leaves = runs_on (MayBeLeft start old now.stopped) first.journal before.journal now.journal
             (weaker_rows (MayBeLeft start old before.stopped) (MayBeLeft start old now.stopped) first.journal before.journal
             (λ left is. elim is [
@@ -333,7 +338,7 @@ module _ {D : Type 0} {disk : Ghosts D} (old : Course) (before mid now : Keeper 
             (subst (LeavesIn (MayBeLeft start old now.stopped) before.journal) (sym same)
             (weaker_rows (MayLeave old.state.rows (doubt_of before) (may_count (Ok kept)) change) (MayBeLeft start old now.stopped) before.journal mid.journal
             (λ left is. elim is [
-              | inl l ↦ inl (left_before start first old before ran run level left l)
+              | inl l ↦ inl (left_before start first old before run level left l)
               | inr n ↦ inr (stopped, change, n.1)
             ]) taken.leaves));
         doubt = λ goes. absurd (true_false (sym stopped ∙ goes));
@@ -344,6 +349,82 @@ module _ {D : Type 0} {disk : Ghosts D} (old : Course) (before mid now : Keeper 
       true_false : true ≡ false → ⊥
       true_false e = cc
 
-      by_kept : (k : Kept) → HasKeptIn mid.journal (rows_behind old.state.rows change (Ok k)) → HasKeptOrMore mid.journal true old.state.rows
-      by_kept Served has = inr (change, has)
-      by_kept (Refused doubt) has = inl has
+      by_kept : (k : Kept) → HasKeptIn mid.journal (rows_behind old.state.rows change (Ok k)) → DoubtsAfter (doubt_of before) change (doubt_of mid) (Ok k) → HasKeptOrMore mid.journal true old.state.rows
+      by_kept Served has settled = inr (change, has, settled)
+      by_kept (Refused doubt) has settled = inl has
+
+-- the doubt was closed
+
+module _ {D : Type 0} {disk : Ghosts D} (old : Course) (before now : Keeper D disk) (settles : (rows : Rows) → HasKeptIn before.journal rows → IsSettled rows before now) where
+  doubt_of_before : (rows : Rows) → IsSettled rows before now → (change : Change) → doubt_of now ≡ Some change → doubt_of before ≡ Some change
+  doubt_of_before rows settled change doubts = elim settled.doubt [
+    | inl none ↦ absurd (none_some change (sym none ∙ doubts))
+    | inr same ↦ sym same.0 ∙ doubts
+  ]
+
+  -- the run of a keeper that goes on
+  level_settled : (start : State) (first : Keeper D disk) (run : IsKeptRun start first old before) → before.stopped ≡ false → IsSettled old.state.rows before now → IsKeptRun start first old now
+  level_settled start first run level settled =
+      let stays : now.stopped ≡ false = settled.stopped ∙ level in
+      record {
+        ran = run.ran;
+        kept = subst (λ s. HasKeptOrMore now.journal s old.state.rows) (sym stays) settled.kept;
+        leaves = runs_on (MayBeLeft start old now.stopped) first.journal before.journal now.journal
+            (subst (λ s. LeavesIn (MayBeLeft start old s) first.journal before.journal) (sym settled.stopped) run.leaves)
+            (weaker_rows (IsInDoubt old.state.rows (doubt_of before)) (MayBeLeft start old now.stopped) before.journal now.journal
+            (λ left is. inl (left_before start first old before run level left is)) settled.leaves);
+        doubt = λ goes change doubts. run.doubt level change (doubt_of_before old.state.rows settled change doubts);
+        later = omega (arith, run.later, settled.cause);
+        faults = λ low. let n = run.faults (omega (arith, settled.cause, low)) in omega (arith, settled.cause, n);
+      }
+
+  -- and of one that was stopped
+  stopped_settled : (start : State) (first : Keeper D disk) (run : IsKeptRun start first old before) → before.stopped ≡ true → HasKeptOrMore before.journal true old.state.rows → IsKeptRun start first old now
+  stopped_settled start first run stopped (inl has) =
+      let settled = settles old.state.rows has in
+      let stays : now.stopped ≡ true = settled.stopped ∙ stopped in
+      record {
+        ran = run.ran;
+        kept = subst (λ s. HasKeptOrMore now.journal s old.state.rows) (sym stays) (inl settled.kept);
+        leaves = runs_on (MayBeLeft start old now.stopped) first.journal before.journal now.journal
+            (subst (λ s. LeavesIn (MayBeLeft start old s) first.journal before.journal) (sym settled.stopped) run.leaves)
+            (weaker_rows (IsInDoubt old.state.rows (doubt_of before)) (MayBeLeft start old now.stopped) before.journal now.journal
+            (λ left is. elim is [
+              | inl same ↦ inl (left_at_end start old left run.ran same)
+              | inr d ↦ inr (stays, d.0, d.2)
+            ]) settled.leaves);
+        doubt = λ goes. absurd (true_false (sym stays ∙ goes));
+        later = omega (arith, run.later, settled.cause);
+        faults = λ low. let n = run.faults (omega (arith, settled.cause, low)) in omega (arith, settled.cause, n);
+      }
+    where
+      true_false : true ≡ false → ⊥
+      true_false e = cc
+  stopped_settled start first run stopped (inr (change, has, none)) =
+      let settled = settles (after old.state.rows change) has in
+      let stays : now.stopped ≡ true = settled.stopped ∙ stopped in
+      let still : doubt_of now ≡ None = elim settled.doubt [ | inl is ↦ is | inr same ↦ same.0 ∙ none ] in
+      record {
+        ran = run.ran;
+        kept = subst (λ s. HasKeptOrMore now.journal s old.state.rows) (sym stays) (inr (change, settled.kept, still));
+        leaves = runs_on (MayBeLeft start old now.stopped) first.journal before.journal now.journal
+            (subst (λ s. LeavesIn (MayBeLeft start old s) first.journal before.journal) (sym settled.stopped) run.leaves)
+            (weaker_rows (IsInDoubt (after old.state.rows change) (doubt_of before)) (MayBeLeft start old now.stopped) before.journal now.journal
+            (λ left is. elim is [
+              | inl same ↦ inr (stays, change, same)
+              | inr d ↦ absurd (none_some d.0 (sym none ∙ d.1))
+            ]) settled.leaves);
+        doubt = λ goes. absurd (true_false (sym stays ∙ goes));
+        later = omega (arith, run.later, settled.cause);
+        faults = λ low. let n = run.faults (omega (arith, settled.cause, low)) in omega (arith, settled.cause, n);
+      }
+    where
+      true_false : true ≡ false → ⊥
+      true_false e = cc
+
+  pub settled_on : KeepsOn old before old now
+  settled_on start first run = by_stop before.stopped refl
+    where
+      by_stop : (b : Bool) → before.stopped ≡ b → IsKeptRun start first old now
+      by_stop false level = level_settled start first run level (settles old.state.rows (subst (λ s. HasKeptOrMore before.journal s old.state.rows) level run.kept))
+      by_stop true stopped = stopped_settled start first run stopped (subst (λ s. HasKeptOrMore before.journal s old.state.rows) stopped run.kept)

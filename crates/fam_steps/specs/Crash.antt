@@ -58,8 +58,10 @@ IsUnserved stopped rows left = (stopped ≡ true) × (change : Change) × (left 
 abbrev pub MayBeLeft : State → Course → Bool → Rows → Type 0
 MayBeLeft start course stopped left = IsLeft start course.history left ⊎ IsUnserved stopped course.state.rows left
 
--- A service that began in a state with a keeper: what its keeper has now, and what a crash has left at each moment since.
+-- A service that began in a state with a keeper, and made one legal history: what its keeper has now, and what a crash has
+-- left at each moment since.
 pub record IsKeptRun {D : Type 0} {disk : Ghosts D} (start : State) (first : Keeper D disk) (course : Course) (now : Keeper D disk) : Type 0 where
+  pub ran : Ran start course
   pub kept : Keeps now course.state.rows
   pub leaves : LeavesRows (MayBeLeft start course now.stopped) first now
   pub doubt : now.stopped ≡ false → (change : Change) → doubt_of now ≡ Some change → IsDoubted start course.history course.state.rows change
@@ -69,4 +71,4 @@ pub record IsKeptRun {D : Type 0} {disk : Ghosts D} (start : State) (first : Kee
 -- in whichever state it began, and with whichever keeper, this holds still
 abbrev pub KeepsOn : {D : Type 0} {disk : Ghosts D} → Course → Keeper D disk → Course → Keeper D disk → Type 0
 KeepsOn {D} {disk} old before new now =
-    (start : State) (first : Keeper D disk) → Ran start old → IsKeptRun start first old before → IsKeptRun start first new now
+    (start : State) (first : Keeper D disk) → IsKeptRun start first old before → IsKeptRun start first new now
