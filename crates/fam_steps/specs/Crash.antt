@@ -2,7 +2,7 @@
 use Rattle.std.specs.Prelude.{◌≡◌, ◌⊎◌, ℕ, ◌+◌, ◌-◌, ◌^◌, ◌<◌, ◌≤◌, Bool, true, false, List, [], ◌∷◌, ◌++◌, Option, Some, None}
 use Rattle.fam_base.specs.declared.error.FamError.TheVariants as error
 use Rattle.fam_disk.specs.declared.disk.Disk.{Ghosts}
-use Rattle.fam_keeper.specs.Keeping.{Keeps, IsInDoubt, LeavesRows, doubt_of, faults_of}
+use Rattle.fam_keeper.specs.Keeping.{HasKeptIn, Keeps, IsInDoubt, LeavesRows, doubt_of, faults_of}
 use Rattle.fam_keeper.specs.declared.keeper.Keeper.{Keeper}
 use Rattle.fam_model.specs.declared.change.Change.{Change}
 use Rattle.fam_model.specs.declared.event.Event.{Event}
@@ -72,3 +72,13 @@ pub record IsKeptRun {D : Type 0} {disk : Ghosts D} (start : State) (first : Kee
 abbrev pub KeepsOn : {D : Type 0} {disk : Ghosts D} → Course → Keeper D disk → Course → Keeper D disk → Type 0
 KeepsOn {D} {disk} old before new now =
     (start : State) (first : Keeper D disk) → IsKeptRun start first old before → IsKeptRun start first new now
+
+-- a keeper before a run: it has kept what leads to these rows, and nothing is in doubt
+pub record IsFresh {D : Type 0} {disk : Ghosts D} (keeper : Keeper D disk) (rows : Rows) : Type 0 where
+  pub kept : HasKeptIn keeper.journal rows
+  pub goes_on : keeper.stopped ≡ false
+  pub settled : doubt_of keeper ≡ None
+
+-- a history that began in a state with a keeper, and led to some state
+abbrev pub IsKeptHistory : {D : Type 0} {disk : Ghosts D} → State → Keeper D disk → List Event → Keeper D disk → Type 0
+IsKeptHistory start first history now = (state : State) × IsKeptRun start first (record { history = history; state = state }) now

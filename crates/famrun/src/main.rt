@@ -10,6 +10,7 @@ mod ending;
 #[cfg(test)]
 mod made_tests;
 mod make;
+mod playing;
 mod reading;
 mod sim;
 #[cfg(test)]
@@ -20,6 +21,7 @@ mod wanted;
 use crate::command::fam_main;
 use crate::ending::Ending;
 use crate::sim::tell;
+use fam_disk::FileDisk;
 use fam_io::{Reader, Writer};
 use std::io::ErrorKind;
 use std::process::ExitCode;
@@ -30,17 +32,29 @@ fn words(rt: &HostRuntime) -> io::Result<Vec<String>> {
     Ok(env::args(rt)?.skip(1).collect(rt.alloc())?)
 }
 
-fn main(rt: HostRuntime) -> ExitCode {
+/// The file of the journal, in the current folder.
+const JOURNAL: &str = "fam.journal";
+
+/// Runs the command of these words.
+fn run(rt: HostRuntime, words: &[String]) -> u8 {
     let mut input = Reader::new(rt.stdin());
     let mut output = Writer::new(rt.stdout());
-    let status = match words(&rt) {
-        Ok(words) => fam_main(rt.alloc(), &words, &mut input, &mut output).status,
-        // Words that are not UTF-8 are those of no command.
-        Err(error) if error.kind() == ErrorKind::InvalidData => {
-            fam_main(rt.alloc(), &[], &mut input, &mut output).status
-        }
+    match FileDisk::open(&rt, JOURNAL) {
+        Ok(disk) => fam_main(rt.alloc(), words, &mut input, &mut output, disk).status,
         Err(_) => {
-            tell(&mut output, b"no memory\n");
+            tell(&mut output, b"disk fault\n");
+            Ending::DiskFault.status()
+        }
+    }
+}
+
+fn main(rt: HostRuntime) -> ExitCode {
+    let status = match words(&rt) {
+        Ok(words) => run(rt, &words),
+        // Words that are not UTF-8 are those of no command.
+        Err(error) if error.kind() == ErrorKind::InvalidData => run(rt, &[]),
+        Err(_) => {
+            tell(&mut Writer::new(rt.stdout()), b"no memory\n");
             Ending::NoMemory.status()
         }
     };

@@ -4,6 +4,7 @@ ghost use Rattle.std.specs.Prelude.{◌≡◌, ◌≢◌, ◌+◌, ◌<◌, ◌�
 ghost use Rattle.std.specs.Option.{ForSome};
 ghost use Rattle.fam_disk.specs.Crash.{IsSynced};
 ghost use Rattle.fam_base.specs.Causes.{HasCause, Rose};
+ghost use Rattle.fam_model.specs.Rows.{IsLawful};
 ghost use Rattle.meta_journal.specs.Found.{IsBlank, IsFound, IsLong, IsReady, header_in};
 ghost use Rattle.meta_journal.specs.Layout.{area_start, is_fresh, part};
 ghost use Rattle.meta_journal.specs.Opened.{IsSeen, Looks, Makes, OpensAs, ReadsArea, StartsSynced};
@@ -159,6 +160,7 @@ fn read_area<D: Disk>(
     ensures looks { Looks (D.state disk.old) (D.state disk.new) }
     ensures found { IfSome (D.state disk.old).content (λ bytes. ReadsArea limit header bytes result) }
     ensures room { IfOk result (λ started. (16 ≤ started.used) × (started.used < limit)) }
+    ensures lawful { IfOk result (λ started. IsLawful started.rows) }
     ensures cause { (D.state disk.old).faults ≤ (D.state disk.new).faults }
     ensures failed { IfErr result (λ fault. fault ≡ DiskFault → Rose (D.state disk.old).faults (D.state disk.new).faults) }
 {
@@ -196,6 +198,7 @@ fn start_synced<D: Disk>(
     ensures starts { IfSome (D.state disk.old).content (λ bytes. StartsSynced limit bytes (D.state disk.old) (D.state disk.new) result) }
     ensures tells { is_some (D.state disk.new).content ≡ is_some (D.state disk.old).content }
     ensures room { IfOk result (λ started. (16 ≤ started.used) × (started.used < limit)) }
+    ensures lawful { IfOk result (λ started. IsLawful started.rows) }
     ensures cause { (D.state disk.old).faults ≤ (D.state disk.new).faults }
     ensures failed { IfErr result (λ fault. fault ≡ DiskFault → Rose (D.state disk.old).faults (D.state disk.new).faults) }
 {
@@ -224,6 +227,7 @@ fn start_behind<D: Disk>(
     ensures opens { IfSome (D.state disk.old).content (λ bytes. OpensAs limit bytes (D.state disk.old) (D.state disk.new) result) }
     ensures tells { is_some (D.state disk.new).content ≡ is_some (D.state disk.old).content }
     ensures room { IfOk result (λ started. (16 ≤ started.used) × (started.used < limit)) }
+    ensures lawful { IfOk result (λ started. IsLawful started.rows) }
     ensures cause { (D.state disk.old).faults ≤ (D.state disk.new).faults }
     ensures failed { IfErr result (λ fault. fault ≡ DiskFault → Rose (D.state disk.old).faults (D.state disk.new).faults) }
 {
@@ -250,6 +254,7 @@ fn start_old<D: Disk>(
     ensures opens { IfSome (D.state disk.old).content (λ bytes. OpensAs limit bytes (D.state disk.old) (D.state disk.new) result) }
     ensures tells { is_some (D.state disk.new).content ≡ is_some (D.state disk.old).content }
     ensures room { IfOk result (λ started. (16 ≤ started.used) × (started.used < limit)) }
+    ensures lawful { IfOk result (λ started. IsLawful started.rows) }
     ensures cause { (D.state disk.old).faults ≤ (D.state disk.new).faults }
     ensures failed { IfErr result (λ fault. fault ≡ DiskFault → Rose (D.state disk.old).faults (D.state disk.new).faults) }
 {
@@ -272,6 +277,7 @@ fn start_fresh<D: Disk>(
     ensures opens { IfSome (D.state disk.old).content (λ bytes. OpensAs limit bytes (D.state disk.old) (D.state disk.new) result) }
     ensures tells { is_some (D.state disk.new).content ≡ is_some (D.state disk.old).content }
     ensures room { IfOk result (λ started. (16 ≤ started.used) × (started.used < limit)) }
+    ensures lawful { IfOk result (λ started. IsLawful started.rows) }
     ensures cause { (D.state disk.old).faults ≤ (D.state disk.new).faults }
     ensures failed { IfErr result (λ fault. fault ≡ DiskFault → Rose (D.state disk.old).faults (D.state disk.new).faults) }
 {
@@ -295,6 +301,7 @@ pub(crate) fn start<D: Disk>(alloc: Global, disk: &mut D, limit: u64) -> Result<
     ensures opens { IfSome (D.state disk.old).content (λ bytes. OpensAs limit bytes (D.state disk.old) (D.state disk.new) result) }
     ensures tells { is_some (D.state disk.new).content ≡ is_some (D.state disk.old).content }
     ensures room { IfOk result (λ started. (16 ≤ started.used) × (started.used < limit)) }
+    ensures lawful { IfOk result (λ started. IsLawful started.rows) }
     ensures cause { (D.state disk.old).faults ≤ (D.state disk.new).faults }
     ensures failed { IfErr result (λ fault. fault ≡ DiskFault → Rose (D.state disk.old).faults (D.state disk.new).faults) }
 {

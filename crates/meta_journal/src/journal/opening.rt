@@ -1,6 +1,6 @@
 //! Opening a journal.
 
-ghost use Rattle.std.specs.Prelude.{◌≡◌, ◌≤◌, ◌^◌, None, IfOk, IfErr, IfSome};
+ghost use Rattle.std.specs.Prelude.{◌≡◌, ◌≤◌, ◌^◌, None, IfOk, IfErr, IfSome, is_some};
 ghost use Rattle.fam_base.specs.Causes.{Rose};
 ghost use Rattle.fam_model.specs.Rows.{IsLawful};
 
@@ -31,6 +31,8 @@ impl<D: Disk> Journal<D> {
         ensures settled { IfOk result (λ opened. opened.0.doubt ≡ Nothing) }
         // Damage is told of a damaged journal alone, with its place.
         ensures refused { IfSome (D.state disk).content (λ bytes. IfErr result (λ refused. IsRefused limit bytes refused.1)) }
+        ensures lawful { IfOk result (λ opened. IsLawful opened.1) }
+        ensures tells { is_some (D.state (disk_after result)).content ≡ is_some (D.state disk).content }
         // From the first sync on that was served a crash leaves the rows that the disk had.
         ensures any_moment { IfSome (D.state disk).content (λ bytes. Opens (HasRowsOf limit bytes) (D.state disk) (D.state (disk_after result))) }
         ensures cause { (D.state disk).faults ≤ (D.state (disk_after result)).faults }
