@@ -117,14 +117,16 @@ comes_next script run s h =
 
 -- errors
 
--- an error that says nothing of room
+-- an error that says nothing of room or of a disk
 abbrev pub is_harmless : FamError → Bool
 is_harmless (error.HistoryFull used need) = false
 is_harmless (error.JournalFull used need) = false
+is_harmless error.DiskFault = false
 is_harmless _ = true
 
 -- what happened tells no other error
 abbrev pub is_tame : What → Bool
+is_tame (what.Refused asked e doubt) = false
 is_tame made = option_map_or is_harmless (error_of made) true
 
 due_by : (allowed : Bool) (kind : PlanKind) (bytes : List ℕ) (j : ℕ) →

@@ -27,3 +27,4 @@ pub mod Lives
 pub mod Living
 pub mod RunEnds
 pub mod Unrefused
+pub mod Refusable

@@ -1,5 +1,5 @@
 -- A refusal by the disk in place of the event that is due.
-use Rattle.std.proofs.Common.{◌≡◌, ℕ, Bool, true, refl, sym, ap, ◌∙◌, inl, inr, subst}
+use Rattle.std.proofs.Common.{◌≡◌, ℕ, Bool, refl, sym, ap, ◌∙◌, inl, inr, subst}
 use Rattle.std.specs.Prelude.{◌⊎◌, slice_get, Option, Some}
 use Rattle.rand_pcg.specs.Lcg.{Lcg}
 use Rattle.fam_base.specs.declared.error.FamError.TheVariants as error
@@ -23,7 +23,7 @@ use Rattle.fam_model.specs.Text.{next_call}
 use Rattle.fam_model.specs.Turn.{call_made}
 use Rattle.fam_schedule.specs.Schedule.{Run, IsDiskRefusal, Comes, event_of, event_after, first_event, next_step, replies_to}
 use Rattle.fam_schedule.proofs.Options.{bind_some}
-use Rattle.fam_schedule.proofs.Comes.{IsDue, comes_next, comes_tame, first_makes, is_tame}
+use Rattle.fam_schedule.proofs.Comes.{IsDue, comes_next, first_makes}
 
 -- the disk refuses the change
 abbrev pub disk_refusal : MetaCall → Bool → What
@@ -113,8 +113,3 @@ comes_as script run due event is (inr r) = inr (refused_of script run due event 
 -- what comes where the schedule has its next event is that one, or the refusal of a program's next call
 pub comes_instead : (script : Script) (run : Run) (due event : Event) (words : Lcg) → next_step script run ≡ Some (due, words) → Comes run.now due event → IsDueOrRefused script run event
 comes_instead script run due event words chosen comes = comes_as script run due event (comes_next script run (due, words) chosen) comes
-
--- it tells no want of room
-pub instead_tame : (script : Script) (run : Run) (event : Event) → IsDueOrRefused script run event → is_tame event.what ≡ true
-instead_tame script run event (inl due) = comes_tame script run event due
-instead_tame script run event (inr o) = ap (λ e. is_tame e.what) o.refused.is

@@ -1,12 +1,13 @@
--- Where the disk refused nothing, each event is the one that is due.
+-- The disk refused nothing exactly where each event is the one that is due.
 use Rattle.std.proofs.Common.{◌≡◌, ℕ, ◌+◌, ◌≤◌, Bool, true, false, List, [], ◌∷◌, refl, sym, ap, ◌∙◌, arith, inl, inr}
-use Rattle.std.specs.Prelude.{◌⊎◌, fold, Some, if◌then◌else◌}
+use Rattle.std.specs.Prelude.{fold, Some, if◌then◌else◌}
 use Rattle.rand_pcg.specs.Lcg.{Lcg}
 use Rattle.fam_model.specs.declared.event.Event.{Event}
 use Rattle.fam_model.specs.declared.script.Script.{Script}
-use Rattle.fam_model.specs.declared.state.State.{State}
 use Rattle.fam_model.specs.Earned.{disk_faults, is_disk_fault}
 use Rattle.fam_schedule.specs.Schedule.{Run, Step, Comes, LeadsTo, LeadsAsDue, went_on}
+use Rattle.fam_schedule.proofs.Comes.{comes_next}
+use Rattle.fam_schedule.proofs.Tame.{due_no_fault}
 
 -- n and the refusals by the disk
 abbrev faults_from : ℕ → List Event → ℕ
@@ -44,6 +45,31 @@ as_due script run (event ∷ history) end (due, words, next, chosen, comes, step
 of_one : (n : ℕ) → 0 + n ≡ 0 → n ≡ 0
 of_one n h = omega arith
 
+to_one : (n : ℕ) → n ≡ 0 → 0 + n ≡ 0
+to_one n h = omega arith
+
 -- where the disk refused nothing, each event is the one that is due
 pub leads_as_due : (script : Script) (run : Run) (history : List Event) (end : Run) → LeadsTo script run history end → disk_faults (history ∷ []) ≡ 0 → LeadsAsDue script run history end
 leads_as_due script run history end leads none = as_due script run history end leads (of_one (faults_from 0 history) none)
+
+-- the other way round
+
+none_more : (b : Bool) (history : List Event) → b ≡ false → faults_from 0 history ≡ 0 → faults_from (0 + (if b then 1 else 0)) history ≡ 0
+none_more true history e h = cc
+none_more false history e h = h
+
+due_faults : (script : Script) (run : Run) (history : List Event) (end : Run) → LeadsAsDue script run history end → faults_from 0 history ≡ 0
+due_faults script run [] end leads = refl
+due_faults script run (event ∷ history) end (words, next, chosen, steps, leads) =
+    none_more (is_disk_fault event.what) history (due_no_fault script run event (comes_next script run (the_step event words) chosen))
+    (due_faults script (went_on run event next words) history end leads)
+
+-- where each event is the one that is due, the disk refused nothing
+pub due_unrefused : (script : Script) (run : Run) (history : List Event) (end : Run) → LeadsAsDue script run history end → disk_faults (history ∷ []) ≡ 0
+due_unrefused script run history end leads = to_one (faults_from 0 history) (due_faults script run history end leads)
+
+-- what is due may come
+pub due_leads : (script : Script) (run : Run) (history : List Event) (end : Run) → LeadsAsDue script run history end → LeadsTo script run history end
+due_leads script run [] end leads = leads
+due_leads script run (event ∷ history) end (words, next, chosen, steps, leads) =
+    (event, words, next, chosen, inl refl, steps, due_leads script (went_on run event next words) history end leads)

@@ -19,9 +19,8 @@ use Rattle.fam_model.specs.Step.{step}
 use Rattle.fam_model.specs.Text.{follows}
 use Rattle.fam_schedule.specs.Schedule.{Run, LeadsTo, IsScheduled, new_run, went_on}
 use Rattle.fam_schedule.proofs.Follows.{tells_follows}
-use Rattle.fam_schedule.proofs.Comes.{is_tame}
-use Rattle.fam_schedule.proofs.Refusals.{comes_instead, instead_tame}
-use Rattle.fam_schedule.proofs.Tame.{all_tame, tame_earned}
+use Rattle.fam_schedule.proofs.Refusals.{comes_instead}
+use Rattle.fam_schedule.proofs.Tame.{all_have_room, has_room, instead_has_room, room_earned}
 use Rattle.fam_schedule.proofs.Runs.{TellsAll, tells_instead}
 
 -- the start
@@ -59,7 +58,7 @@ pub record Ends (script : Script) (run : Run) (history : List Event) (end : Run)
   pub tells : TellsAll script end
   pub before : end.before ≡ run.before ++ history
   pub reached : state_after service_limits run.now history ≡ Some end.now
-  pub tame : all_tame history ≡ true
+  pub room : all_have_room history ≡ true
 
 both_true : (a b : Bool) → a ≡ true → b ≡ true → (a && b) ≡ true
 both_true a b e f = rw (e, f) refl
@@ -73,7 +72,7 @@ leads_ends script run [] end all leads =
       tells = subst (TellsAll script) (sym leads) all;
       before = ap (λ r. r.before) leads ∙ sym (append-nil run.before);
       reached = ap (λ r. Some r.now) (sym leads);
-      tame = refl;
+      room = refl;
     }
 leads_ends script run (event ∷ history) end all (due, words, next, chosen, comes, steps, leads) =
     let instead = comes_instead script run due event words chosen comes in
@@ -82,7 +81,7 @@ leads_ends script run (event ∷ history) end all (due, words, next, chosen, com
       tells = later.tells;
       before = later.before ∙ append_assoc run.before (event ∷ []) history;
       reached = bind_known (step service_limits run.now event) next (λ s. state_after service_limits s history) steps ∙ later.reached;
-      tame = both_true (is_tame event.what) (all_tame history) (instead_tame script run event instead) later.tame;
+      room = both_true (has_room event.what) (all_have_room history) (instead_has_room script run event instead) later.room;
     }
 
 -- the end
@@ -121,5 +120,5 @@ scheduled_is_run rows script seed history whole faults_before faults_after s fau
     record {
       legal = ap is_some ends.reached;
       follows = ap (follows_script script) (sym ends.before) ∙ scheduled_follows script s.end ends.tells;
-      earned = tame_earned (opening rows script) s.end.now history faults_before faults_after ends.reached ends.tame faults;
+      earned = room_earned (opening rows script) s.end.now history faults_before faults_after ends.reached ends.room faults;
     }
