@@ -106,11 +106,12 @@ fn play_out<D: Disk>(
     requires kept { Keeps keeper.old player.service.state.rows }
     ensures played { (rows : Rows) (script : Script) → IsOpened rows script player → IsPlayedOut rows script seed result }
     ensures keeps { KeepsOn player.service keeper.old result.service keeper.new }
+    ensures goes_on { result.whole ≡ true → keeper.new.stopped ≡ false }
 {
     let mut words = words_of(seed);
     let whole = play(alloc, &mut player, keeper, &mut words);
     let Player { service, turns, .. } = player;
-    if !whole {
+    if !whole || keeper.is_stopped() {
         return so_far(alloc, service);
     }
     match all_lines(alloc, turns) {
@@ -154,6 +155,7 @@ pub fn play_script<D: Disk>(
     ensures played { IfOk result (IsPlayedOut rows script.now seed) }
     ensures kept { IfOk result (λ played. IsKeptRun (opening rows script.now) keeper.old played.service keeper.new) }
     ensures untouched { OnErr result (keeper.new ≡ keeper.old) }
+    ensures goes_on { IfOk result (λ played. played.whole ≡ true → keeper.new.stopped ≡ false) }
 {
     keeper.leaves_what_was_kept();
     let player = Player::new(alloc, rows, script)?;
@@ -187,9 +189,11 @@ pub fn simulate<D: Disk>(
     ensures scheduled { schedule.IsScheduled rows script.now seed result.history.items result.whole }
     ensures replies { result.whole ≡ true → result.replies.items ≡ reply_lines (length script.now.programs) result.history.items }
     ensures kept { IsKeptHistory (opening rows script.now) keeper.old result.history.items keeper.new }
+    ensures goes_on { result.whole ≡ true → keeper.new.stopped ≡ false }
 {
     let played = play_script(alloc, rows, script, seed, keeper);
     keeper.settle();
+    keeper.leaves_what_was_kept();
     match played {
         Ok(
             Played {

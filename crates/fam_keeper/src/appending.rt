@@ -43,8 +43,8 @@ fn reserve<D: Disk>(
 {
     match journal.reserve_with(change, rows) {
         Ok(()) => Ok(()),
-        Err(FamError::Memory) => Err(NoMemory),
-        Err(_) => unreachable!(),
+        Err(FamError::JournalFull { .. }) => unreachable!(),
+        Err(_) => Err(NoMemory),
     }
 }
 

@@ -9,15 +9,15 @@ use fam_model::Change;
 
 /// Whether a change creates this region.
 fn creates(
-    change: &Change,
+    made: &Change,
     number: RegionId,
     owner: (u32, u32, Mode),
     extent: u64,
     called: &Bytes,
 ) -> bool
-    ensures { (result ≡ true) ↔ (change.now ≡ change.CreateRegion number owner.0 owner.1 owner.2 extent called.now) }
+    ensures { (result ≡ true) ↔ (made.now ≡ change.CreateRegion number owner.0 owner.1 owner.2 extent called.now) }
 {
-    match change {
+    match made {
         Change::CreateRegion {
             region,
             uid,
@@ -37,16 +37,16 @@ fn creates(
 
 /// Whether a change allocates this item.
 fn allocates(
-    change: &Change,
+    made: &Change,
     place: (ItemId, RegionId, u64),
     owner: (u32, u32, Mode),
     extent: u64,
     called: &Bytes,
 ) -> bool
     ensures { (result ≡ true)
-        ↔ (change.now ≡ change.Allocate place.0 place.1 place.2 extent owner.0 owner.1 owner.2 called.now) }
+        ↔ (made.now ≡ change.Allocate place.0 place.1 place.2 extent owner.0 owner.1 owner.2 called.now) }
 {
-    match change {
+    match made {
         Change::Allocate {
             item,
             region,

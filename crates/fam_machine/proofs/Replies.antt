@@ -1,6 +1,6 @@
 -- What a reply to a request that changes nothing tells.
-use Rattle.std.proofs.Common.{◌≡◌, Option, Some, None, Bool, true, false, sym, ap, ◌∙◌, refl}
-use Rattle.std.specs.Prelude.{◌&&◌, is_none, is_some}
+use Rattle.std.proofs.Common.{◌≡◌, Option, Some, None, Bool, true, false, sym, ap, ◌∙◌, refl, subst, inl, inr}
+use Rattle.std.specs.Prelude.{◌&&◌, ◌⊎◌, is_none, is_some}
 use Rattle.std.specs.Option.{option_map_or}
 use Rattle.std.proofs.lemmas.Option.{none-some}
 use Rattle.fam_base.specs.declared.naming.Who.{Who}
@@ -16,6 +16,8 @@ use Rattle.fam_model.specs.Lists.{◌>>=◌, when}
 use Rattle.fam_model.specs.MetaStep.{unchanging_reply, told_base, told_change, may_reply}
 use Rattle.fam_model.specs.Same.{same_reply}
 use Rattle.fam_machine.specs.Effects.{Tells, told_if}
+use Rattle.fam_machine.specs.declared.meta.Told.{Told}
+use Rattle.fam_machine.specs.declared.meta.Told.TheVariants.{Right, Wrong}
 
 -- a reply that changes nothing tells whether it is the one
 told_so : (rows : Rows) (who : Who) (asked : Request) (given : Reply) (b : Bool) → may_reply rows who asked given ≡ b → told_change rows who asked given ≡ None → Tells rows who asked given (told_if b)
@@ -69,3 +71,7 @@ wrong_tells_nothing rows who asked given wrong = by_refusal (refusal rows who as
     by_refusal (Some error) e =
         no_change (change_at rows who asked (told_base given)) (λ chosen. is_none (refusal rows who asked) && may_lie rows asked (told_base given) && same_reply given (answer chosen))
         (λ chosen. ap (λ o. is_none o && may_lie rows asked (told_base given) && same_reply given (answer chosen)) e)
+
+pub right_or_wrong : (rows : Rows) (who : Who) (asked : Request) (given : Reply) (t : Told) → Tells rows who asked given t → (t ≡ Right) ⊎ (t ≡ Wrong) → told_change rows who asked given ≡ None
+right_or_wrong rows who asked given t tells (inl right) = (subst (Tells rows who asked given) right tells).1
+right_or_wrong rows who asked given t tells (inr wrong) = wrong_tells_nothing rows who asked given (subst (Tells rows who asked given) wrong tells)

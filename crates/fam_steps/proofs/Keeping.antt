@@ -29,7 +29,7 @@ use Rattle.fam_model.specs.Turn.{call_made}
 use Rattle.meta_journal.specs.Reading.{HasRows}
 use Rattle.meta_journal.specs.declared.journal.Journal.{Journal}
 use Rattle.fam_steps.specs.Steps.{Course, IsDue, Makes, Ran, come, least_change, refused_what}
-use Rattle.fam_steps.specs.Crash.{IsDoubted, IsKeptRun, IsLeft, IsLeftBefore, IsUnserved, KeepsOn, MayBeLeft, doubted, doubted_by}
+use Rattle.fam_steps.specs.Crash.{IsDoubted, IsFresh, IsKeptRun, IsLeftAtEnd, IsLeft, IsLeftBefore, IsUnserved, KeepsOn, MayBeLeft, doubted, doubted_by}
 use Rattle.fam_steps.proofs.Course.{goes_on}
 use Rattle.fam_steps.proofs.Serving.{rows_by, step_rows}
 
@@ -428,3 +428,66 @@ module _ {D : Type 0} {disk : Ghosts D} (old : Course) (before now : Keeper D di
       by_stop : (b : Bool) → before.stopped ≡ b → IsKeptRun start first old now
       by_stop false level = level_settled start first run level (settles old.state.rows (subst (λ s. HasKeptOrMore before.journal s old.state.rows) level run.kept))
       by_stop true stopped = stopped_settled start first run stopped (subst (λ s. HasKeptOrMore before.journal s old.state.rows) stopped run.kept)
+
+-- a keeper before a run
+
+pub first_run : {D : Type 0} {disk : Ghosts D} (start : State) (keeper : Keeper D disk) → IsFresh keeper start.rows → LeavesRows (IsInDoubt start.rows (doubt_of keeper)) keeper keeper →
+    IsKeptRun start keeper (record { history = []; state = start }) keeper
+first_run start keeper fresh leaves =
+    let course : Course = record { history = []; state = start } in
+    let none : disk_faults ([] ∷ []) ≡ 0 = refl in
+    record {
+      ran = refl;
+      kept = subst (λ s. HasKeptOrMore keeper.journal s start.rows) (sym fresh.goes_on) fresh.kept;
+      leaves = weaker_rows (IsInDoubt start.rows (doubt_of keeper)) (MayBeLeft start course keeper.stopped) keeper.journal keeper.journal
+          (λ left is. elim is [
+            | inl same ↦ inl (left_at_end start course left refl same)
+            | inr d ↦ absurd (none_some d.0 (sym fresh.settled ∙ d.1))
+          ]) leaves;
+      doubt = λ goes change doubts. absurd (none_some change (sym fresh.settled ∙ doubts));
+      later = omega arith;
+      faults = λ low. omega (arith, none);
+    }
+
+-- what a crash leaves at the end
+
+pub last_left : {D : Type 0} {disk : Ghosts D} (start : State) (first now : Keeper D disk) (course : Course) → IsKeptRun start first course now →
+    ((rows : Rows) → HasKeptIn now.journal rows → LeavesRows (IsInDoubt rows (doubt_of now)) now now) →
+    LeavesRows (λ left. IsLeftAtEnd start course.history left ⊎ IsUnserved now.stopped course.state.rows left) now now
+last_left start first now course run leaves = by_stop now.stopped refl
+  where
+    true_false : true ≡ false → ⊥
+    true_false e = cc
+
+    at_end : (left : Rows) → (left ≡ course.state.rows) ⊎ ((change : Change) × IsDoubted start course.history course.state.rows change × (left ≡ after course.state.rows change)) → IsLeftAtEnd start course.history left
+    at_end left is = record { state = course.state; reached = run.ran; left_is = is }
+
+    by_more : now.stopped ≡ true → HasKeptOrMore now.journal true course.state.rows → LeavesRows (λ left. IsLeftAtEnd start course.history left ⊎ IsUnserved now.stopped course.state.rows left) now now
+    by_more stopped (inl has) =
+        weaker_rows (IsInDoubt course.state.rows (doubt_of now)) (λ left. IsLeftAtEnd start course.history left ⊎ IsUnserved now.stopped course.state.rows left) now.journal now.journal
+        (λ left is. elim is [
+          | inl same ↦ inl (at_end left (inl same))
+          | inr d ↦ inr (stopped, d.0, d.2)
+        ]) (leaves course.state.rows has)
+    by_more stopped (inr (change, has, none)) =
+        weaker_rows (IsInDoubt (after course.state.rows change) (doubt_of now)) (λ left. IsLeftAtEnd start course.history left ⊎ IsUnserved now.stopped course.state.rows left) now.journal now.journal
+        (λ left is. elim is [
+          | inl same ↦ inr (stopped, change, same)
+          | inr d ↦ absurd (none_some d.0 (sym none ∙ d.1))
+        ]) (leaves (after course.state.rows change) has)
+
+    by_stop : (b : Bool) → now.stopped ≡ b → LeavesRows (λ left. IsLeftAtEnd start course.history left ⊎ IsUnserved now.stopped course.state.rows left) now now
+    by_stop false level =
+        let has = subst (λ s. HasKeptOrMore now.journal s course.state.rows) level run.kept in
+        weaker_rows (IsInDoubt course.state.rows (doubt_of now)) (λ left. IsLeftAtEnd start course.history left ⊎ IsUnserved now.stopped course.state.rows left) now.journal now.journal
+        (λ left is. elim is [
+          | inl same ↦ inl (at_end left (inl same))
+          | inr d ↦ inl (at_end left (inr (d.0, run.doubt level d.0 d.1, d.2)))
+        ]) (leaves course.state.rows has)
+    by_stop true stopped = by_more stopped (subst (λ s. HasKeptOrMore now.journal s course.state.rows) stopped run.kept)
+
+-- the rows of a keeper, whether it was stopped or not
+pub some_kept : {D : Type 0} {disk : Ghosts D} (journal : Option (Journal D disk)) (stopped : Bool) (rows : Rows) → HasKeptOrMore journal stopped rows → (kept : Rows) × HasKeptIn journal kept
+some_kept journal false rows has = (rows, has)
+some_kept journal true rows (inl has) = (rows, has)
+some_kept journal true rows (inr (change, has, none)) = (after rows change, has)

@@ -5,3 +5,4 @@ pub mod Enabled
 pub mod Course
 pub mod Serving
 pub mod Keeping
+pub mod Due

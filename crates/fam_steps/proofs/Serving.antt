@@ -2,20 +2,12 @@
 use Rattle.std.proofs.Common.{◌≡◌, ℕ, Bool, true, false, refl, sym, ap, ◌∙◌, subst}
 use Rattle.std.specs.Prelude.{◌&&◌, Option, Some, None, is_none, is_some, if◌then◌else◌}
 use Rattle.std.specs.Option.{option_map, option_map_or, option_or}
-use Rattle.fam_base.specs.declared.error.FamError.TheVariants as error
 use Rattle.fam_base.specs.declared.naming.Who.{Who}
-use Rattle.fam_keeper.specs.declared.kept.Kept.{Kept}
-use Rattle.fam_keeper.specs.declared.kept.Kept.TheVariants.{Served, Refused}
-use Rattle.fam_model.specs.declared.call.Call.TheVariants as call
-use Rattle.fam_model.specs.declared.call.MetaCall.{MetaCall}
-use Rattle.fam_model.specs.declared.call.MetaCall.TheVariants as meta
 use Rattle.fam_model.specs.declared.change.Change.{Change}
-use Rattle.fam_model.specs.declared.change.Change.TheVariants as change
 use Rattle.fam_model.specs.declared.event.Event.{Event}
 use Rattle.fam_model.specs.declared.event.What.{What}
 use Rattle.fam_model.specs.declared.event.What.TheVariants as what
 use Rattle.fam_model.specs.declared.reply.Reply.{Reply}
-use Rattle.fam_model.specs.declared.reply.Reply.TheVariants as reply
 use Rattle.fam_model.specs.declared.request.Request.{Request}
 use Rattle.fam_model.specs.declared.request.Request.TheVariants as request
 use Rattle.fam_model.specs.declared.rows.Rows.{Rows}
@@ -27,11 +19,11 @@ use Rattle.fam_model.specs.EndStep.{arrive_step, leave_step, crash_step}
 use Rattle.fam_model.specs.History.{change_in, change_served}
 use Rattle.fam_model.specs.IssueStep.{issue_step}
 use Rattle.fam_model.specs.Limits.{service_limits}
-use Rattle.fam_model.specs.Lists.{◌>>=◌, when, is_some_and}
+use Rattle.fam_model.specs.Lists.{◌>>=◌, when}
 use Rattle.fam_model.specs.MetaStep.{changed, meta_step, served_change, told_base, told_change, unchanging_reply}
 use Rattle.fam_model.specs.PieceStep.{piece_step, memory_by_piece, lose_step}
-use Rattle.fam_model.specs.Programs.{counted, program_of, request_of, with_member, with_program}
-use Rattle.fam_model.specs.RefusedStep.{is_change, refused_step, would_serve}
+use Rattle.fam_model.specs.Programs.{program_of, with_member, with_program}
+use Rattle.fam_model.specs.RefusedStep.{refused_step}
 use Rattle.fam_model.specs.Same.{same_reply}
 use Rattle.fam_model.specs.Step.{effect, step}
 use Rattle.fam_model.specs.Turn.{is_in_turn}
@@ -49,7 +41,7 @@ changed_rows state None = refl
 changed_rows state (Some chosen) = refl
 
 -- the change that an event of this program serves
-abbrev change_by : State → ProgramState → What → Option Change
+abbrev pub change_by : State → ProgramState → What → Option Change
 change_by state p (what.Meta asked given) = served_change state.rows p asked given
 change_by state p w = None
 
@@ -80,7 +72,7 @@ effect_rows state next pe p call what.Crash h = by_member state next pe (crash_s
 effect_rows state next pe p call (what.Lose piece) h = by_program state next pe (lose_step p call piece) h
 effect_rows state next pe p call (what.Refused asked e doubt) h = by_program state next pe (refused_step service_limits state.rows state.round p asked e doubt) h
 
-change_is : (state : State) (pe : ℕ) (p : ProgramState) (w : What) → program_of state pe ≡ Some p → change_in state pe w ≡ change_by state p w
+pub change_is : (state : State) (pe : ℕ) (p : ProgramState) (w : What) → program_of state pe ≡ Some p → change_in state pe w ≡ change_by state p w
 change_is state pe p (what.Meta asked given) there = ap (λ (o : Option ProgramState). o >>= λ q. served_change state.rows q asked given) there
 change_is state pe p (what.Issue asked given) there = refl
 change_is state pe p (what.Piece piece given) there = refl
@@ -187,66 +179,3 @@ due_is_least rows who asked given chosen due told =
     sym (ap (λ (o : Option Reply). option_or o (option_map answer (first_choice rows who asked))) quiet) ∙ due in
     let m = map_is answer (first_choice rows who asked) given choice in
     m.1 ∙ least_of rows who asked m.0 chosen m.1 (ap (λ g. change_at rows who asked (told_base g)) m.2 ∙ t.is)
-
--- the refusal
-
--- a call that serves a change changes the directory
-changes : (rows : Rows) (p : ProgramState) (asked : MetaCall) (wanted : Request) (base : ℕ) (chosen : Change) → request_of p asked ≡ Some wanted → change_at rows p.who wanted base ≡ Some chosen → is_change asked ≡ true
-changes rows p (meta.CreateRegion slot name size mode) wanted base chosen r is = refl
-changes rows p (meta.DestroyRegion slot) wanted base chosen r is = refl
-changes rows p (meta.ResizeRegion slot size) wanted base chosen r is = refl
-changes rows p (meta.SetRegionMode slot mode) wanted base chosen r is = refl
-changes rows p (meta.Allocate slot name size mode from) wanted base chosen r is = refl
-changes rows p (meta.Deallocate slot) wanted base chosen r is = refl
-changes rows p (meta.SetItemMode slot mode) wanted base chosen r is = refl
-changes rows p (meta.LookupRegion slot name) wanted base chosen r is = looked_up r
-  where
-    looked_up : Some (request.LookupRegion name) ≡ Some wanted → false ≡ true
-    looked_up e = let same : request.LookupRegion name ≡ wanted = cc in
-        let no : None ≡ Some chosen = ap (λ w. change_at rows p.who w base) same ∙ is in cc
-changes rows p (meta.Lookup slot name region) wanted base chosen r is = looked_up r
-  where
-    looked_up : Some (request.Lookup name region) ≡ Some wanted → false ≡ true
-    looked_up e = let same : request.Lookup name region ≡ wanted = cc in
-        let no : None ≡ Some chosen = ap (λ w. change_at rows p.who w base) same ∙ is in cc
-changes rows p (meta.StatRegion slot) wanted base chosen r is =
-    let b = bind_some _ (λ region. Some (request.StatRegion region)) wanted r in
-    let same : request.StatRegion b.0 ≡ wanted = cc in
-    let no : None ≡ Some chosen = ap (λ w. change_at rows p.who w base) same ∙ is in cc
-changes rows p (meta.Stat slot) wanted base chosen r is =
-    let b = bind_some _ (λ held. Some (request.Stat held.item)) wanted r in
-    let same : request.Stat b.0.item ≡ wanted = cc in
-    let no : None ≡ Some chosen = ap (λ w. change_at rows p.who w base) same ∙ is in cc
-
--- what a served change says of its call
-pub record Serving (state : State) (pe : ℕ) (p : ProgramState) (asked : MetaCall) (given : Reply) (chosen : Change) : Type 0 where
-  pub wanted : Request
-  pub request : request_of p asked ≡ Some wanted
-  pub told : told_change state.rows p.who wanted given ≡ Some chosen
-
-pub serving : (state : State) (pe : ℕ) (p : ProgramState) (asked : MetaCall) (given : Reply) (chosen : Change) → program_of state pe ≡ Some p →
-    change_in state pe (what.Meta asked given) ≡ Some chosen → Serving state pe p asked given chosen
-serving state pe p asked given chosen there h =
-    let served : served_change state.rows p asked given ≡ Some chosen = sym (change_is state pe p (what.Meta asked given) there) ∙ h in
-    let b = bind_some (request_of p asked) (λ wanted. told_change state.rows p.who wanted given) chosen served in
-    record { wanted = b.0; request = b.1; told = b.2 }
-
-some_known : {A B : Type 0} (f : A → B) (o : Option A) (x : A) → o ≡ Some x → is_some (option_map f o) ≡ true
-some_known f o x h = ap (λ o. is_some (option_map f o)) h
-
--- its refusal by the disk may come too
-pub refusal_comes : (state : State) (pe : ℕ) (n : ℕ) (p : ProgramState) (asked : MetaCall) (given : Reply) (chosen : Change) (doubt : Bool) → program_of state pe ≡ Some p →
-    is_in_turn p n (what.Meta asked given) ≡ true → change_in state pe (what.Meta asked given) ≡ Some chosen →
-    is_some (step service_limits state (record { pe = record { 0 = pe }; call = n; what = what.Refused (call.Meta asked) error.DiskFault doubt })) ≡ true
-refusal_comes state pe n p asked given chosen doubt there turn served =
-    let s = serving state pe p asked given chosen there served in
-    let t = told_of state.rows p.who s.wanted given chosen s.told in
-    let refused = what.Refused (call.Meta asked) error.DiskFault doubt in
-    let serves : would_serve state.rows state.round p (call.Meta asked) ≡ true =
-    ap (λ (o : Option Request). is_some_and o (λ wanted. is_none (refusal state.rows p.who wanted))) s.request ∙ ap is_none t.none in
-    let change : is_change asked ≡ true = changes state.rows p asked s.wanted (told_base given) chosen s.request t.is in
-    let takes : refused_step service_limits state.rows state.round p (call.Meta asked) error.DiskFault doubt ≡ Some (counted p) = rw (serves, change) refl in
-    let in_turn : is_in_turn p n refused ≡ true = turn in
-    ap (λ (o : Option ProgramState). is_some (o >>= λ q. if is_in_turn q n refused then effect service_limits state pe q n refused else None)) there
-    ∙ ap (λ (b : Bool). is_some (if b then effect service_limits state pe p n refused else None)) in_turn
-    ∙ some_known (with_program state pe) (refused_step service_limits state.rows state.round p (call.Meta asked) error.DiskFault doubt) (counted p) takes

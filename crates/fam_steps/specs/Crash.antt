@@ -79,6 +79,15 @@ pub record IsFresh {D : Type 0} {disk : Ghosts D} (keeper : Keeper D disk) (rows
   pub goes_on : keeper.stopped ≡ false
   pub settled : doubt_of keeper ≡ None
 
--- a history that began in a state with a keeper, and led to some state
-abbrev pub IsKeptHistory : {D : Type 0} {disk : Ghosts D} → State → Keeper D disk → List Event → Keeper D disk → Type 0
-IsKeptHistory start first history now = (state : State) × IsKeptRun start first (record { history = history; state = state }) now
+-- Rows that a crash may leave at the end of a history: those behind it, or these with the change that is in doubt.
+pub record IsLeftAtEnd (start : State) (history : List Event) (left : Rows) : Type 0 where
+  pub state : State
+  pub reached : state_after service_limits start history ≡ Some state
+  pub left_is : (left ≡ state.rows) ⊎ ((change : Change) × IsDoubted start history state.rows change × (left ≡ after state.rows change))
+
+-- A history that began in a state with a keeper, and led to some state: what a crash has left at each moment since, and what it
+-- leaves now.
+pub record IsKeptHistory {D : Type 0} {disk : Ghosts D} (start : State) (first : Keeper D disk) (history : List Event) (now : Keeper D disk) : Type 0 where
+  pub state : State
+  pub run : IsKeptRun start first (record { history = history; state = state }) now
+  pub last : LeavesRows (λ left. IsLeftAtEnd start history left ⊎ IsUnserved now.stopped state.rows left) now now

@@ -13,7 +13,7 @@ use Rattle.fam_model.specs.History.{state_after}
 use Rattle.fam_model.specs.Limits.{service_limits}
 use Rattle.fam_model.specs.Rows.{IsLawful}
 use Rattle.fam_schedule.specs.Schedule.{IsScheduled}
-use Rattle.fam_steps.specs.Crash.{IsDoubted, IsLeft}
+use Rattle.fam_steps.specs.Crash.{IsLeft, IsLeftAtEnd}
 use Rattle.meta_journal.specs.Opened.{HasRowsOf, Opens}
 use Rattle.meta_journal.specs.Reading.{HasRows, journal}
 
@@ -50,15 +50,9 @@ IsOneMore start history left =
 abbrev pub MayBeLeft : State → List Event → Bool → Rows → Type 0
 MayBeLeft start history whole left = IsLeft start history left ⊎ ((whole ≡ false) × IsOneMore start history left)
 
--- those at its end: the rows behind it, or these with the change that is in doubt
-pub record IsLeftAtEnd (start : State) (history : List Event) (left : Rows) : Type 0 where
-  pub state : State
-  pub reached : state_after service_limits start history ≡ Some state
-  pub left_is : (left ≡ state.rows) ⊎ ((change : Change) × IsDoubted start history state.rows change × (left ≡ after state.rows change))
-
--- the same, where memory may have been wanting
+-- those that it may leave at its end
 abbrev pub MayRemain : State → List Event → Bool → Rows → Type 0
-MayRemain start history whole left = IsLeftAtEnd start history left ⊎ ((whole ≡ false) × MayBeLeft start history false left)
+MayRemain start history whole left = IsLeftAtEnd start history left ⊎ ((whole ≡ false) × IsOneMore start history left)
 
 -- A journal was opened on a disk, and has these rows.
 pub record IsOpenedFrom {D : Type 0} (state : D → DiskState) (rows : Rows) (old opened : D) : Type 0 where
