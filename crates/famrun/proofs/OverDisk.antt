@@ -47,7 +47,7 @@ some_of : {A : Type 0} (o : Option A) → IsSome o → (x : A) × (o ≡ Some x)
 some_of None is = cc
 some_of (Some x) is = (x, refl)
 
-if_some_is : {A : Type 0} (o : Option A) (P : A → Type 0) (x : A) → o ≡ Some x → IfSome o P → P x
+pub if_some_is : {A : Type 0} (o : Option A) (P : A → Type 0) (x : A) → o ≡ Some x → IfSome o P → P x
 if_some_is o P x is h = let here : IfSome (Some x) P = subst (λ p. IfSome p P) is h in here
 
 module _ {D : Type 0} {disk : Ghosts D} (old : D) (opened : Journal D disk) (rows : Rows) (is_opened : IfSome (disk.state old).content (λ bytes. IsOpened service_limits.journal bytes opened rows)) where

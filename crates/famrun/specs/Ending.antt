@@ -15,6 +15,8 @@ use Rattle.fam_script.specs.BadLine.{IsBadLine}
 use Rattle.fam_base.specs.declared.error.NoMemory.{NoMemory as NoMemoryError}
 use Rattle.fam_disk.specs.Crash.{DiskState}
 use Rattle.meta_journal.specs.Reading.{journal}
+use Rattle.meta_journal.specs.declared.starting.OpenFault.{OpenFault}
+use Rattle.meta_journal.specs.declared.starting.OpenFault.TheVariants as open
 use Rattle.famrun.specs.OverDisk.{IsDamagedAt, Looks, RunsOver}
 use Rattle.famrun.specs.declared.ending.Ending.{Ending}
 use Rattle.famrun.specs.declared.ending.Ending.TheVariants.{Told, BadWords, BadLine, Illegal, ReadFault, WriteFault, NoMemory, TooLong, DiskFault, Damaged}
@@ -132,6 +134,15 @@ SimEnds state seed from to before after old new history (Illegal line rule) = �
 abbrev pub IsCalm : SourceState → SourceState → SinkState → SinkState → Type 0
 IsCalm from to before after = (¬ Rose from.faults to.faults) × (¬ Rose before.faults after.faults)
 
+-- a script was run, or memory was wanting, or the disk failed at opening, or the journal is damaged
+abbrev pub IsRunOrNot : DiskState → DiskState → ℕ → Type 0
+IsRunOrNot old new status =
+    (status ≡ 0) ⊎ (status ≡ 9) ⊎ ((status ≡ 6) × Rose old.faults new.faults) ⊎ ((status ≡ 7) × ((place : ℕ) × IsDamagedAt old place))
+
+-- the journal was told to be damaged, or memory was wanting, or the disk failed at opening
+abbrev pub IsDamagedOrNot : DiskState → DiskState → ℕ → Type 0
+IsDamagedOrNot old new status = (status ≡ 7) ⊎ (status ≡ 9) ⊎ ((status ≡ 6) × Rose old.faults new.faults)
+
 -- What `sim` leaves: its status, its history and its disk.
 pub record SimOutcome {D : Type 0} (state : D → DiskState) (words : List (List ℕ)) (from to : SourceState) (before after : SinkState) (old new : D) (status : ℕ) (history : List Event) : Type 0 where
   -- status 2 comes exactly where the words are not those of `sim`; nothing is read then, and the disk is left alone
@@ -143,14 +154,12 @@ pub record SimOutcome {D : Type 0} (state : D → DiskState) (words : List (List
   pub most : MovesUpTo from to (input_limit + 1)
   -- a script is run and reported, unless a call of the outside fails, the journal is damaged, or memory is wanting
   pub complete : IsSim words → IsCalm from to before after →
-      IfSome from.left (λ bytes. length bytes ≤ input_limit → (script : Script) → IsScript bytes script →
-      (status ≡ 0) ⊎ (status ≡ 9) ⊎ ((status ≡ 6) × Rose (state old).faults (state new).faults)
-      ⊎ ((status ≡ 7) × ((place : ℕ) × IsDamagedAt (state old) place)))
+      IfSome from.left (λ bytes. length bytes ≤ input_limit → (script : Script) → IsScript bytes script → IsRunOrNot (state old) (state new) status)
   -- a journal that is damaged is told to be
   pub damaged : IsSim words → IsCalm from to before after →
       IfSome from.left (λ bytes. length bytes ≤ input_limit → (script : Script) → IsScript bytes script →
       (read : List ℕ) (place : ℕ) → (state old).content ≡ Some read → journal service_limits.journal read ≡ Err place →
-      (status ≡ 7) ⊎ (status ≡ 9) ⊎ ((status ≡ 6) × Rose (state old).faults (state new).faults))
+      IsDamagedOrNot (state old) (state new) status)
   -- what is no script is told to be none
   pub no_script : IsSim words → IsCalm from to before after →
       IfSome from.left (λ bytes. length bytes ≤ input_limit → ((script : Script) → ¬ IsScript bytes script) → (status ≡ 3) ⊎ (status ≡ 9))
@@ -212,6 +221,15 @@ ReportsRun script rows history whole before after WriteFault =
     (whole ≡ true) × AddsPrefix before after (report script rows history) × Rose before.faults after.faults
 ReportsRun script rows history whole before after NoMemory = Tells before after (codes "no memory\n")
 ReportsRun script rows history whole before after _ = ⊥
+
+-- what is told where a journal was not opened, and how that ends
+abbrev pub TellsFault : OpenFault → SinkState → SinkState → Ending → Type 0
+TellsFault open.Memory before after NoMemory = Tells before after (codes "no memory\n")
+TellsFault open.DiskFault before after DiskFault = Tells before after (codes "disk fault\n")
+TellsFault (open.Damaged place) before after (Damaged told) =
+    (told ≡ place) × Tells before after (codes "damaged " ++ (decimal place ++ codes "\n"))
+TellsFault (open.Damaged place) before after NoMemory = Tells before after (codes "no memory\n")
+TellsFault fault before after _ = ⊥
 
 -- why a journal was not opened
 abbrev pub NotOpened : DiskState → DiskState → SinkState → SinkState → Ending → Type 0

@@ -1,10 +1,13 @@
 //! A script, played over a disk.
 
-ghost use Rattle.std.specs.Prelude.{◌≡◌, true, length, codes, IfOk, IfErr};
+ghost use Rattle.std.specs.Prelude.{◌≡◌, true, length};
+ghost use Rattle.fam_keeper.specs.Keeping.{HasKept};
 ghost use Rattle.fam_model.specs.Grammar.{IsLawfulScript};
 ghost use Rattle.fam_model.specs.ReportText as texts;
-ghost use Rattle.famrun.specs.Ending.{NotOpened, PlaysScript, ReportsRun};
-ghost use Rattle.famrun.specs.OverDisk.{IsOpenedFrom};
+ghost use Rattle.fam_model.specs.Rows.{IsLawful};
+ghost use Rattle.meta_journal.specs.declared.doubt.Doubt.TheVariants.{Nothing};
+ghost use Rattle.famrun.specs.Ending.{PlaysScript, ReportsRun, TellsFault};
+ghost use Rattle.famrun.specs.OverDisk.{IsOpenedFrom, Looks};
 
 use crate::ending::Ending;
 use crate::sim::{tell, tell_no_memory, write_report};
@@ -31,7 +34,9 @@ pub struct Played<D: Disk> {
 }
 
 /// Tells why a journal was not opened.
-fn tell_unopened<K: Sink>(alloc: Global, output: &mut K, fault: OpenFault) -> Ending {
+fn tell_unopened<K: Sink>(alloc: Global, output: &mut K, fault: OpenFault) -> Ending
+    ensures { TellsFault fault (K.sink output.old) (K.sink output.new) result }
+{
     match fault {
         OpenFault::Memory => tell_no_memory(output),
         OpenFault::DiskFault => {
@@ -42,7 +47,9 @@ fn tell_unopened<K: Sink>(alloc: Global, output: &mut K, fault: OpenFault) -> En
     }
 }
 
-fn tell_damaged<K: Sink>(alloc: Global, output: &mut K, place: u64) -> Ending {
+fn tell_damaged<K: Sink>(alloc: Global, output: &mut K, place: u64) -> Ending
+    ensures { TellsFault (OpenFault.Damaged place) (K.sink output.old) (K.sink output.new) result }
+{
     match format!(in alloc; "damaged {place}\n") {
         Ok(line) => {
             tell(output, line.as_bytes());
@@ -93,6 +100,12 @@ fn play_on<K: Sink, D: Disk>(
     journal: Journal<D>,
     rows: Rows,
 ) -> Played<D>
+    requires script { IsLawfulScript script.now }
+    requires rows { IsLawful rows }
+    requires kept { HasKept journal rows }
+    requires settled { journal.doubt ≡ Nothing }
+    ensures { (old : D) → IsOpenedFrom D.state rows old journal.disk → Looks (D.state old) (D.state journal.disk) →
+        PlaysScript D.state seed script.now result.history.items (K.sink output.old) (K.sink output.new) old result.disk result.ending }
 {
     let Ok(opening) = copy_of_rows(alloc, &rows) else {
         return Played {

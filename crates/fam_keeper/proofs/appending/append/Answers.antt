@@ -2,7 +2,7 @@ use Rattle.std.proofs.Common.{◌≡◌, sym, ◌∙◌, subst, ap, ◌<◌, ◌
 use Rattle.std.specs.Prelude.{Ok, Err}
 use Rattle.meta_journal.proofs.Bodies.{bodies}
 use Rattle.meta_journal.specs.State.{has_room}
-use Rattle.fam_keeper.proofs.Kept.{appended, not_reserved, refused, reserved_kept}
+use Rattle.fam_keeper.proofs.Holding.{appended, not_reserved, refused, reserved_kept}
 use Rattle.fam_keeper.proofs.appending.append.Goals as goal
 
 pub reserve-requires-clause-has_body : goal.reserve-requires-clause-has_body

@@ -1,4 +1,4 @@
-use Rattle.fam_keeper.proofs.Kept.{leaves_in}
+use Rattle.fam_keeper.proofs.Holding.{leaves_in}
 use Rattle.fam_keeper.proofs.keeper.Keeper.leaves_what_was_kept.Goals as goal
 
 pub returns : goal.returns

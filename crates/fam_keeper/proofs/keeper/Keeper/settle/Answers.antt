@@ -4,7 +4,7 @@ use Rattle.fam_base.specs.declared.error.FamError.{FamError}
 use Rattle.fam_base.specs.Causes.{HasCause, Rose}
 use Rattle.meta_journal.specs.declared.doubt.Doubt.TheVariants.{Nothing}
 use Rattle.fam_keeper.specs.Keeping.{HasKeptIn, IsSettled}
-use Rattle.fam_keeper.proofs.Kept.{settled, settled_doubt}
+use Rattle.fam_keeper.proofs.Holding.{settled, settled_doubt}
 use Rattle.fam_keeper.proofs.keeper.Keeper.settle.Goals as goal
 
 pub returns-in-Some : goal.returns-in-Some
