@@ -8,7 +8,7 @@ use Rattle.fam_base.specs.declared.error.NoMemory.{NoMemory}
 use Rattle.fam_disk.specs.Crash.{DiskState, LeavesOnly}
 use Rattle.fam_disk.specs.declared.disk.Disk.{Ghosts}
 use Rattle.fam_disk.proofs.Moments.{run_on, weaker}
-use Rattle.fam_keeper.specs.Keeping.{DoubtsAfter, HasFailed, HasKeptIn, HasSome, IsInDoubt, IsSettled, IsTaken, Keeps, HasKeptOrMore, LeavesIn, LeavesRows, MayLeave, doubt_of, faults_in, faults_of, may_count, rows_behind}
+use Rattle.fam_keeper.specs.Keeping.{DoubtsAfter, HasFailed, HasKeptIn, HasSome, IsInDoubt, IsSettled, IsTaken, Keeps, HasKeptOrMore, LeavesIn, LeavesRows, MayLeave, doubt_in, doubt_of, faults_in, faults_of, may_count, rows_behind}
 use Rattle.fam_keeper.specs.declared.keeper.Keeper.{Keeper}
 use Rattle.fam_keeper.specs.declared.kept.Kept.{Kept}
 use Rattle.fam_keeper.specs.declared.kept.Kept.TheVariants.{Served, Refused}
@@ -491,3 +491,7 @@ pub some_kept : {D : Type 0} {disk : Ghosts D} (journal : Option (Journal D disk
 some_kept journal false rows has = (rows, has)
 some_kept journal true rows (inl has) = (rows, has)
 some_kept journal true rows (inr (change, has, none)) = (after rows change, has)
+
+-- a keeper that keeps nothing is fresh
+pub nothing_fresh : {D : Type 0} {disk : Ghosts D} (keeper : Keeper D disk) (rows : Rows) → keeper.journal ≡ None → keeper.stopped ≡ false → IsFresh keeper rows
+nothing_fresh keeper rows none level = record { kept = subst (λ j. HasKeptIn j rows) (sym none) tt; goes_on = level; settled = ap doubt_in none }
