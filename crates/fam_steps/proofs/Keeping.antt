@@ -31,8 +31,8 @@ use Rattle.fam_schedule.specs.Schedule.{Comes, IsDiskRefusal}
 use Rattle.fam_schedule.proofs.Refusable.{refusal_may_come}
 use Rattle.meta_journal.specs.Reading.{HasRows}
 use Rattle.meta_journal.specs.declared.journal.Journal.{Journal}
-use Rattle.fam_steps.specs.Steps.{Course, IsDue, Makes, Ran, come, least_change, refused_what}
-use Rattle.fam_steps.specs.Crash.{IsDoubted, IsFresh, IsKeptRun, IsLeftAtEnd, IsLeft, IsLeftBefore, IsUnserved, KeepsOn, MayBeLeft, doubted, doubted_by}
+use Rattle.fam_steps.specs.Steps.{Course, IsDue, Makes, MakesDue, Ran, come, least_change, refused_what}
+use Rattle.fam_steps.specs.Crash.{IsDoubted, IsFinished, IsFresh, IsKeptDue, IsKeptRun, IsLeftAtEnd, IsMade, IsLeft, IsLeftBefore, IsUnserved, KeepsOn, MayBeLeft, doubted, doubted_by}
 use Rattle.fam_steps.proofs.Course.{goes_on}
 use Rattle.fam_steps.proofs.Serving.{rows_by, step_rows}
 
@@ -561,3 +561,96 @@ come_steps state due change Served is h = is.comes
 come_steps state due change (Refused doubt) is h =
     let next = some_of (step service_limits state due) is.comes in
     refusal_may_come service_limits state next.0 due (come due (Refused doubt)) next.1 (come_refused state due change doubt h)
+
+-- making what is due
+
+-- a keeper that is stopped behind an event that was not made
+pub stopped_quiet : {D : Type 0} {disk : Ghosts D} (old : Course) (before now : Keeper D disk) → now.journal ≡ before.journal → now.stopped ≡ true → KeepsOn old before old now
+stopped_quiet old before now same stopped start first run =
+    let faults : faults_of now ≡ faults_of before = ap faults_in same in
+    record {
+      ran = run.ran;
+      kept = subst (λ s. HasKeptOrMore now.journal s old.state.rows) (sym stopped) (subst (λ j. HasKeptOrMore j true old.state.rows) (sym same) (more before.stopped run.kept));
+      leaves = subst (LeavesIn (MayBeLeft start old now.stopped) first.journal) (sym same)
+          (weaker_rows (MayBeLeft start old before.stopped) (MayBeLeft start old now.stopped) first.journal before.journal
+          (λ left is. elim is [
+            | inl l ↦ inl l
+            | inr u ↦ inr (stopped, u.1, u.2)
+          ]) run.leaves);
+      doubt = λ goes. absurd (true_false (sym stopped ∙ goes));
+      later = omega (arith, run.later, faults);
+      faults = λ low. let n = run.faults (omega (arith, faults, low)) in omega (arith, faults, n);
+    }
+  where
+    true_false : true ≡ false → ⊥
+    true_false e = cc
+
+    more : (b : Bool) → HasKeptOrMore before.journal b old.state.rows → HasKeptOrMore before.journal true old.state.rows
+    more false has = inl has
+    more true has = has
+
+quiet_stopped_kept : {D : Type 0} {disk : Ghosts D} (rows : Rows) (before now : Keeper D disk) → now.journal ≡ before.journal → now.stopped ≡ true → Keeps before rows → Keeps now rows
+quiet_stopped_kept rows before now same stopped kept =
+    subst (λ s. HasKeptOrMore now.journal s rows) (sym stopped) (subst (λ j. HasKeptOrMore j true rows) (sym same) (more before.stopped kept))
+  where
+    more : (b : Bool) → HasKeptOrMore before.journal b rows → HasKeptOrMore before.journal true rows
+    more false has = inl has
+    more true has = has
+
+pub due_comes : {D : Type 0} {disk : Ghosts D} (state : State) (due : Event) (before now : Keeper D disk) (kept : Kept) → IsDue state due → IsKeptDue state due before now (Ok kept) →
+    is_some (step service_limits state (come due kept)) ≡ true
+due_comes state due before now kept is (inl (quiet, served, same)) = ap (λ k. is_some (step service_limits state (come due k))) served ∙ is.comes
+due_comes state due before now kept is (inr (change, serves, level, taken)) = come_steps state due change kept is serves
+
+-- nothing was kept, or memory was wanting before it was
+pub not_kept : {D : Type 0} {disk : Ghosts D} (old : Course) (due : Event) (before now : Keeper D disk) (e : NoMemory) → Keeps before old.state.rows → IsKeptDue old.state due before now (Err e) → IsMade old due before old now (Err e)
+not_kept old due before now e kept (inl same) =
+    record {
+      made = refl;
+      legal = λ start ran. ran;
+      kept = subst (λ k. Keeps k old.state.rows) (sym same) kept;
+      keeps = λ start first run. subst (IsKeptRun start first old) (sym same) run;
+    }
+not_kept old due before now e kept (inr (change, level, taken)) =
+    record {
+      made = refl;
+      legal = λ start ran. ran;
+      kept = unkept_kept old.state.rows change before now e taken;
+      keeps = unkept_on old before now change level e taken;
+    }
+
+-- what came was added, or not
+pub finished : {D : Type 0} {disk : Ghosts D} (old new : Course) (due : Event) (before mid now : Keeper D disk) (kept : Kept) (result : Result Kept NoMemory) → IsDue old.state due → Keeps before old.state.rows →
+    IsKeptDue old.state due before mid (Ok kept) → IsFinished old (come due kept) kept mid new now result → IsMade old due before new now result
+finished old new due before mid now kept (Ok told) is keeps (inl (quiet, served, same)) (told_is, makes, still) =
+    let due_made : Makes old due new = subst (λ k. Makes old (come due k) new) served makes in
+    let here : now ≡ before = still ∙ same in
+    record {
+      made = subst (λ k. MakesDue old due (come due k) new) (sym (told_is ∙ served)) (record { comes = inl refl; makes = due_made });
+      legal = goes_on old new due due_made;
+      kept = subst (λ k. Keeps k new.state.rows) (sym here) (quiet_kept old new due before due_made quiet keeps);
+      keeps = λ start first run. subst (IsKeptRun start first new) (sym here) (quiet_on old new due before due_made quiet is.calm start first run);
+    }
+finished old new due before mid now kept (Ok told) is keeps (inr (change, serves, level, taken)) (told_is, makes, still) =
+    let here = subst (λ k. IsTaken old.state.rows change before k (Ok kept)) (sym still) taken in
+    record {
+      made = subst (λ k. MakesDue old due (come due k) new) (sym told_is) (record { comes = come_comes old.state due change kept serves; makes = makes });
+      legal = goes_on old new (come due kept) makes;
+      kept = made_kept old new due before now change is serves level kept makes here;
+      keeps = made_on old new due before now change is serves level kept makes here;
+    }
+finished old new due before mid now kept (Err e) is keeps (inl (quiet, served, same)) (still, journal, stopped) =
+    let journal_is : now.journal ≡ before.journal = journal ∙ ap (λ k. k.journal) same in
+    record {
+      made = still;
+      legal = λ start ran. subst (Ran start) (sym still) ran;
+      kept = subst (λ c. Keeps now c.state.rows) (sym still) (quiet_stopped_kept old.state.rows before now journal_is stopped keeps);
+      keeps = λ start first run. subst (λ c. IsKeptRun start first c now) (sym still) (stopped_quiet old before now journal_is stopped start first run);
+    }
+finished old new due before mid now kept (Err e) is keeps (inr (change, serves, level, taken)) (still, journal, stopped) =
+    record {
+      made = still;
+      legal = λ start ran. subst (Ran start) (sym still) ran;
+      kept = subst (λ c. Keeps now c.state.rows) (sym still) (stopped_kept old.state.rows change before mid now kept taken journal stopped);
+      keeps = λ start first run. subst (λ c. IsKeptRun start first c now) (sym still) (stopped_on old before mid now change level kept taken journal stopped start first run);
+    }

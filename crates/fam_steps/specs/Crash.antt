@@ -1,8 +1,8 @@
 -- What a crash leaves of a run.
-use Rattle.std.specs.Prelude.{◌≡◌, ◌⊎◌, ℕ, ◌+◌, ◌-◌, ◌^◌, ◌<◌, ◌≤◌, Bool, true, false, List, [], ◌∷◌, ◌++◌, Option, Some, None}
+use Rattle.std.specs.Prelude.{◌≡◌, ◌⊎◌, ℕ, ◌+◌, ◌-◌, ◌^◌, ◌<◌, ◌≤◌, Bool, true, false, List, [], ◌∷◌, ◌++◌, Option, Some, None, Result, Ok, Err}
 use Rattle.fam_base.specs.declared.error.FamError.TheVariants as error
 use Rattle.fam_disk.specs.declared.disk.Disk.{Ghosts}
-use Rattle.fam_keeper.specs.Keeping.{HasKeptIn, Keeps, IsInDoubt, LeavesRows, doubt_of, faults_of}
+use Rattle.fam_keeper.specs.Keeping.{HasKeptIn, IsTaken, Keeps, IsInDoubt, LeavesRows, doubt_of, faults_of}
 use Rattle.fam_keeper.specs.declared.keeper.Keeper.{Keeper}
 use Rattle.fam_model.specs.declared.change.Change.{Change}
 use Rattle.fam_model.specs.declared.event.Event.{Event}
@@ -14,7 +14,11 @@ use Rattle.fam_model.specs.Directory.{after}
 use Rattle.fam_model.specs.Earned.{disk_faults}
 use Rattle.fam_model.specs.History.{state_after}
 use Rattle.fam_model.specs.Limits.{service_limits}
-use Rattle.fam_steps.specs.Steps.{Course, Ran, least_change}
+use Rattle.fam_base.specs.declared.error.NoMemory.{NoMemory}
+use Rattle.fam_keeper.specs.declared.kept.Kept.{Kept}
+use Rattle.fam_keeper.specs.declared.kept.Kept.TheVariants.{Served, Refused}
+use Rattle.fam_model.specs.History.{change_served}
+use Rattle.fam_steps.specs.Steps.{Course, GoesOn, Makes, MakesDue, Ran, come, least_change}
 
 -- the change that an event left in doubt: its refusal by the disk says so; a new item has the least fitting base
 abbrev pub doubted_by : State → ℕ → What → Option Change
@@ -91,3 +95,30 @@ pub record IsKeptHistory {D : Type 0} {disk : Ghosts D} (start : State) (first :
   pub state : State
   pub run : IsKeptRun start first (record { history = history; state = state }) now
   pub last : LeavesRows (λ left. IsLeftAtEnd start history left ⊎ IsUnserved now.stopped state.rows left) now now
+
+-- for the contracts of private functions
+
+-- The change of an event that is due was kept; or it would serve none, or nothing is kept any more.
+abbrev pub IsKeptDue : {D : Type 0} {disk : Ghosts D} → State → Event → Keeper D disk → Keeper D disk → Result Kept NoMemory → Type 0
+IsKeptDue state due before now (Ok kept) =
+    ((change_served state due ≡ None) × (kept ≡ Served) × (now ≡ before))
+    ⊎ ((change : Change) × (change_served state due ≡ Some change) × (before.stopped ≡ false) × IsTaken state.rows change before now (Ok kept))
+IsKeptDue state due before now (Err e) =
+    (now ≡ before) ⊎ ((change : Change) × (before.stopped ≡ false) × IsTaken state.rows change before now (Err e))
+
+-- an event was added; or memory was wanting, and the keeper is stopped
+abbrev pub IsFinished : {D : Type 0} {disk : Ghosts D} → Course → Event → Kept → Keeper D disk → Course → Keeper D disk → Result Kept NoMemory → Type 0
+IsFinished old event kept before new now (Ok told) = (told ≡ kept) × Makes old event new × (now ≡ before)
+IsFinished old event kept before new now (Err e) = (new ≡ old) × (now.journal ≡ before.journal) × (now.stopped ≡ true)
+
+-- what comes was made; or memory was wanting, and the service is as it was
+abbrev pub MadeOrNot : Course → Event → Course → Result Kept NoMemory → Type 0
+MadeOrNot old due new (Ok kept) = MakesDue old due (come due kept) new
+MadeOrNot old due new (Err e) = new ≡ old
+
+-- either way the keeper keeps on
+pub record IsMade {D : Type 0} {disk : Ghosts D} (old : Course) (due : Event) (before : Keeper D disk) (new : Course) (now : Keeper D disk) (result : Result Kept NoMemory) : Type 0 where
+  pub made : MadeOrNot old due new result
+  pub legal : GoesOn old new
+  pub kept : Keeps now new.state.rows
+  pub keeps : KeepsOn old before new now

@@ -9,9 +9,7 @@ ghost use Rattle.fam_model.specs.Services.{is_service};
 ghost use Rattle.fam_model.specs.Step as machine;
 ghost use Rattle.fam_model.specs.declared.event.Event.{Event};
 ghost use Rattle.fam_keeper.specs.Keeping.{Keeps};
-ghost use Rattle.fam_model.specs.History.{change_served};
-ghost use Rattle.fam_model.specs.Lawful.{is_lawful_change};
-ghost use Rattle.fam_steps.specs.Crash.{KeepsOn};
+ghost use Rattle.fam_steps.specs.Crash.{IsFinished, IsKeptDue, IsMade, KeepsOn};
 ghost use Rattle.fam_steps.specs.Steps as steps;
 
 use crate::coming::come;
@@ -22,7 +20,7 @@ use fam_base::{NoMemory, PeId, Who};
 use fam_disk::Disk;
 use fam_keeper::{Keeper, Kept};
 use fam_machine::{Machine, StepError};
-use fam_model::{Call, Change, Event, Rows, Service};
+use fam_model::{Call, Event, Rows, Service};
 use std::alloc::Global;
 use std::marker::Model;
 
@@ -162,45 +160,25 @@ impl Core {
     fn make<D: Disk>(&mut self, keeper: &mut Keeper<D>, due: Event) -> Result<Kept, NoMemory>
         requires due { steps.IsDue self.old.state due }
         requires kept { Keeps keeper.old self.old.state.rows }
-        ensures made { IfOk result (λ kept. steps.MakesDue self.old due (steps.come due kept) self.new) }
-        ensures failed { OnErr result (self.new ≡ self.old) }
-        ensures kept { Keeps keeper.new self.new.state.rows }
-        ensures keeps { KeepsOn self.old keeper.old self.new keeper.new }
+        ensures { IsMade self.old due keeper.old self.new keeper.new result }
     {
-        if keeper.is_stopped() {
-            return Err(NoMemory);
-        }
-        let Ok(()) = self.history.reserve(1) else {
-            return Err(NoMemory);
-        };
-        match self.machine.change_of(&due)? {
-            Some(change) => self.make_change(keeper, due, &change),
-            None => {
-                self.add(due)?;
-                Ok(Kept::Served)
-            }
+        match keep_due(&self.machine, keeper, &due) {
+            Ok(kept) => self.finish(keeper, come(due, kept), kept),
+            Err(NoMemory) => Err(NoMemory),
         }
     }
 
-    /// Makes what comes where this event is due, which would serve a change: the change is kept first.
-    fn make_change<D: Disk>(
+    /// Adds what came, whose change was kept. Where memory is wanting the keeper is stopped.
+    fn finish<D: Disk>(
         &mut self,
         keeper: &mut Keeper<D>,
-        due: Event,
-        change: &Change,
+        event: Event,
+        kept: Kept,
     ) -> Result<Kept, NoMemory>
-        requires due { steps.IsDue self.old.state due }
-        requires serves { change_served self.old.state due ≡ Some change.now }
-        requires lawful { IsTrue (is_lawful_change self.old.state.rows change.now) }
-        requires goes_on { keeper.old.stopped ≡ false }
-        requires kept { Keeps keeper.old self.old.state.rows }
-        ensures made { IfOk result (λ kept. steps.MakesDue self.old due (steps.come due kept) self.new) }
-        ensures failed { OnErr result (self.new ≡ self.old) }
-        ensures kept { Keeps keeper.new self.new.state.rows }
-        ensures keeps { KeepsOn self.old keeper.old self.new keeper.new }
+        requires { is_some (machine.step service_limits self.old.state event) ≡ true }
+        ensures { IsFinished self.old event kept keeper.old self.new keeper.new result }
     {
-        let kept = keeper.keep(self.machine.rows(), change)?;
-        match self.add(come(due, kept)) {
+        match self.add(event) {
             Ok(()) => Ok(kept),
             Err(NoMemory) => {
                 keeper.stop();
@@ -225,5 +203,23 @@ impl Core {
         }
         self.history.push_reserved(event);
         Ok(())
+    }
+}
+
+/// Keeps the change of an event that is due, if it would serve one.
+fn keep_due<D: Disk>(
+    machine: &Machine,
+    keeper: &mut Keeper<D>,
+    due: &Event,
+) -> Result<Kept, NoMemory>
+    requires { Keeps keeper.old machine.now.rows }
+    ensures { IsKeptDue machine.now due.now keeper.old keeper.new result }
+{
+    if keeper.is_stopped() {
+        return Err(NoMemory);
+    }
+    match machine.change_of(due)? {
+        Some(change) => keeper.keep(machine.rows(), &change),
+        None => Ok(Kept::Served),
     }
 }
