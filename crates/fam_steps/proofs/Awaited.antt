@@ -38,7 +38,9 @@ use Rattle.fam_turns.specs.declared.next.Next.{Next}
 use Rattle.fam_turns.specs.Turns.{answer_of, event_with, next_by}
 use Rattle.fam_steps.specs.declared.step.Step.{Step}
 use Rattle.fam_steps.specs.declared.step.Step.TheVariants as asked
-use Rattle.fam_steps.specs.Steps.{IsDue, IsEnabled, event_for, least_change, piece_name}
+use Rattle.fam_keeper.specs.declared.kept.Kept.{Kept}
+use Rattle.fam_keeper.specs.declared.kept.Kept.TheVariants.{Served, Refused}
+use Rattle.fam_steps.specs.Steps.{Course, HasShape, IsDue, IsEnabled, MakesDue, Serves, come, event_for, least_change, piece_name, refused_what}
 use Rattle.fam_steps.proofs.Enabled.{parts}
 use Rattle.fam_steps.proofs.Serving.{change_is, due_is_least}
 use Rattle.fam_steps.proofs.Keeping.{serves_call}
@@ -172,3 +174,32 @@ step_due state (asked.Lose pe made piece) due h steps =
     let same : loss (piece_name pe.0 made piece) ≡ due = same_some (loss (piece_name pe.0 made piece)) due h in
     quiet_due state due steps (ap (λ e. is_disk_fault e.what) (sym same))
     (λ change served. let no : None ≡ Some change = ap (change_served state) same ∙ served in cc)
+
+-- what comes
+
+refused_call : (w : What) (doubt : Bool) → call_made (refused_what w doubt) ≡ call_made w
+refused_call (what.Meta asked given) doubt = refl
+refused_call (what.Issue asked given) doubt = refl
+refused_call (what.Piece piece given) doubt = refl
+refused_call (what.Answer given) doubt = refl
+refused_call (what.OpenContext context) doubt = refl
+refused_call (what.CloseContext context given) doubt = refl
+refused_call (what.Fence context) doubt = refl
+refused_call (what.Quiet context given) doubt = refl
+refused_call (what.Wait context named given) doubt = refl
+refused_call what.Arrive doubt = refl
+refused_call what.Leave doubt = refl
+refused_call what.Crash doubt = refl
+refused_call (what.Lose piece) doubt = refl
+refused_call (what.Refused asked e told) doubt = refl
+
+-- it has the shape of what is due
+come_shape : (wanted : Step) (due : Event) (kept : Kept) → HasShape wanted due → HasShape wanted (come due kept)
+come_shape wanted due Served shape = shape
+come_shape (asked.Call pe made) due (Refused doubt) (p, c) = (p, refused_call due.what doubt ∙ c)
+come_shape (asked.Answer pe) due (Refused doubt) (p, (given, is)) = (p, (given, ap (λ w. refused_what w doubt) is))
+come_shape (asked.Piece pe made piece) due (Refused doubt) (p, c, (given, is)) = (p, c, (given, ap (λ w. refused_what w doubt) is))
+come_shape (asked.Lose pe made piece) due (Refused doubt) (p, c, is) = (p, c, ap (λ w. refused_what w doubt) is)
+
+pub served : (old new : Course) (wanted : Step) (due : Event) (kept : Kept) → IsEnabled old.state wanted due → MakesDue old due (come due kept) new → Serves old wanted (come due kept) new
+served old new wanted due kept e makes = record { shape = come_shape wanted due kept e.shape; due = due; is_due = e.is_due; makes = makes }

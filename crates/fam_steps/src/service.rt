@@ -219,7 +219,11 @@ fn keep_due<D: Disk>(
         return Err(NoMemory);
     }
     match machine.change_of(due)? {
-        Some(change) => keeper.keep(machine.rows(), &change),
+        Some(change) => {
+            // Its contract says that the rows are lawful.
+            let _layout = machine.layout();
+            keeper.keep(machine.rows(), &change)
+        }
         None => Ok(Kept::Served),
     }
 }
