@@ -114,9 +114,9 @@ none_is : {A : Type 0} (o : Option A) → is_none o ≡ true → o ≡ None
 none_is None h = refl
 none_is (Some x) h = cc
 
-and_first : (a b : Bool) → (a && b) ≡ true → a ≡ true
-and_first true b h = refl
-and_first false b h = cc
+and_first : (a b c : Bool) → (a && b && c) ≡ true → a ≡ true
+and_first true b c h = refl
+and_first false b c h = cc
 
 -- the parts of a change that was told
 pub record Told (rows : Rows) (who : Who) (request : Request) (given : Reply) (chosen : Change) : Type 0 where
@@ -128,7 +128,7 @@ told_of rows who asked given chosen h =
     let tests : Change → Bool = λ c. is_none (refusal rows who asked) && may_lie rows asked (told_base given) && same_reply given (answer c) in
     let b = bind_some (change_at rows who asked (told_base given)) (λ c. when (tests c) c) chosen h in
     let w = when_some (tests b.0) b.0 chosen b.2 in
-    record { none = none_is (refusal rows who asked) (and_first (is_none (refusal rows who asked)) (may_lie rows asked (told_base given) && same_reply given (answer b.0)) w.0); is = b.1 ∙ ap Some w.1 }
+    record { none = none_is (refusal rows who asked) (and_first (is_none (refusal rows who asked)) (may_lie rows asked (told_base given)) (same_reply given (answer b.0)) w.0); is = b.1 ∙ ap Some w.1 }
 
 -- the change has the least base, where the reply tells it
 least_of : (rows : Rows) (who : Who) (asked : Request) (least chosen : Change) → first_choice rows who asked ≡ Some least → change_at rows who asked (told_base (answer least)) ≡ Some chosen →
