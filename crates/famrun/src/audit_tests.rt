@@ -84,6 +84,14 @@ fn push_line(text: &mut Vec<u8>, line: &str) -> Result<(), Fail> {
     Ok(())
 }
 
+/// A line so many times.
+fn push_lines(text: &mut Vec<u8>, line: &str, copies: usize) -> Result<(), Fail> {
+    for _ in 0..copies {
+        push_line(text, line)?;
+    }
+    Ok(())
+}
+
 /// The input with another line in place of one of its lines.
 fn changed(alloc: Global, number: usize, other: &str) -> Result<Vec<u8>, Fail> {
     let mut text = Vec::new(alloc);
@@ -100,9 +108,7 @@ fn repeated(alloc: Global, number: usize, times: usize, events: &str) -> Result<
     for (place, line) in INPUT.iter().enumerate() {
         let copies = if place + 1 == number { times } else { 1 };
         let shown = if place == 11 { events } else { *line };
-        for _ in 0..copies {
-            push_line(&mut text, shown)?;
-        }
+        push_lines(&mut text, shown, copies)?;
     }
     Ok(text)
 }
