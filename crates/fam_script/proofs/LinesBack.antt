@@ -751,6 +751,7 @@ line_back line.Stop e = (refl, refl)
 pub record IsLineReader : Type 0 where
   pub takes : (text : List ℕ) (l : Line) → line_of text ≡ Some l → (is_line l ≡ true) × (text ≡ line_text l)
   pub again : (l : Line) → is_line l ≡ true → line_of (line_text l) ≡ Some l
+  pub loose : (l : Line) → is_line l ≡ true → loose_line (line_text l) ≡ Some l
   pub no_feed : (l : Line) → is_line l ≡ true → lacks 10 (line_text l) ≡ true
 
 pub line_reader : IsLineReader
@@ -765,5 +766,6 @@ line_reader = record {
   again = λ l e.
       ap (λ (o : Option Line). o >>= λ m. when (is_line m && bytes_eq (line_text m) (line_text l)) m) (line_back l e).0
       ∙ when_true (is_line l && bytes_eq (line_text l) (line_text l)) l (and_both (is_line l) (bytes_eq (line_text l) (line_text l)) e (bytes_same (line_text l) (line_text l) refl));
+  loose = λ l e. (line_back l e).0;
   no_feed = λ l e. (line_back l e).1;
 }

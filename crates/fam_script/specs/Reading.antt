@@ -14,6 +14,7 @@ use Rattle.fam_model.specs.declared.call.MetaCall.{MetaCall}
 use Rattle.fam_model.specs.declared.call.MetaCall.TheVariants as meta
 use Rattle.fam_model.specs.declared.call.DataOp.{DataOp}
 use Rattle.fam_model.specs.declared.call.DataOp.TheVariants as data_op
+use Rattle.fam_model.specs.declared.call.Call.{Call}
 use Rattle.fam_model.specs.declared.call.Call.TheVariants as call
 use Rattle.fam_model.specs.declared.line.Line.{Line}
 use Rattle.fam_model.specs.declared.line.Line.TheVariants as line
@@ -596,3 +597,14 @@ loose_line text = or_else (bare_line text) (words_line (parts 32 text))
 -- the lawful line whose text this is
 abbrev pub line_of : List ℕ → Option Line
 line_of text = loose_line text >>= λ l. when (is_line l && bytes_eq (line_text l) text) l
+
+-- calls
+
+-- the call that a line says, if it is a statement of one call
+abbrev pub one_call : Line → Option Call
+one_call (line.One asked) = Some asked
+one_call _ = None
+
+-- the call that a text may say; it says that one where it is its text
+abbrev pub call_of : List ℕ → Option Call
+call_of text = loose_line text >>= λ l. when (is_line l) l >>= one_call

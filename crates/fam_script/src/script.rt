@@ -25,6 +25,7 @@ mod table;
 mod unfinished;
 mod word;
 
+pub use line::call;
 pub use word::number;
 
 /// Why bytes are no script. A bad line is told by its number, the first line having number 1.

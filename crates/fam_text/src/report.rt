@@ -11,9 +11,9 @@ macro_rules! push {
     }};
 }
 
-mod events;
-mod replies;
-mod rows;
+pub mod events;
+pub mod replies;
+pub mod rows;
 mod words;
 
 use events::push_history;

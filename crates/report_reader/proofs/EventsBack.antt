@@ -24,12 +24,12 @@ use Rattle.fam_model.specs.ReplyText.{error_words, answer_words, reply_words}
 use Rattle.fam_model.specs.Shape.{is_context}
 use Rattle.fam_model.specs.Values.{is_u32, is_u64, error_fits, answer_fits, reply_fits}
 use Rattle.fam_model.specs.Words.{context_text, words_text}
-use Rattle.fam_script.specs.Reading.{Words, parts, slot_of, or_else}
+use Rattle.fam_script.specs.Reading.{Words, parts, slot_of, or_else, call_of}
 use Rattle.fam_script.proofs.Splits.{lacks}
 use Rattle.fam_script.proofs.Tests.{and_left, and_right, and_both, all_both, bind_some, when_some, when_true, same_bytes, bytes_same}
 use Rattle.fam_script.proofs.WordsBack.{is_printed, byte_back, slot_of-cons, decimal_printed}
 use Rattle.report_reader.specs.EventForm.{is_call_told, is_issue_reply, is_disk_fault, what_fits, event_fits}
-use Rattle.report_reader.specs.Reading.{reply_of, Doubted, CallInFront, call_of, call_before, call_in_front, behind_colon, meta_from, issue_from, refused_from, doubted_of, refusal_of, piece_from, close_from, quiet_from, wait_from, bare_what, spoken_what, what_of, event_from, loose_event, event_of}
+use Rattle.report_reader.specs.Reading.{reply_of, Doubted, CallInFront, call_before, call_in_front, behind_colon, meta_from, issue_from, refused_from, doubted_of, refusal_of, piece_from, close_from, quiet_from, wait_from, bare_what, spoken_what, what_of, event_from, loose_event, event_of}
 use Rattle.report_reader.proofs.Words.{both, all_printed, name_back, name_printed, words_back, words_lack_feed}
 use Rattle.report_reader.proofs.RepliesBack.{HasWord, not_one, number_is, small_is, u64_printed, u32_printed, error_back, error_plain, answer_back, answer_plain, reply_back, reply_printed}
 use Rattle.report_reader.proofs.CallWords.{call_printed, call_sized}

@@ -6,9 +6,9 @@ use Rattle.std.proofs.Common.{arith}
 use Rattle.fam_model.specs.declared.call.Call.{Call}
 use Rattle.fam_model.specs.Lists.{◌>>=◌}
 use Rattle.fam_model.specs.Words.{words_text}
-use Rattle.fam_script.specs.Reading.{Words, parts}
+use Rattle.fam_script.specs.Reading.{Words, parts, call_of}
 use Rattle.fam_script.proofs.Cuts.{first_part}
-use Rattle.report_reader.specs.Reading.{CallInFront, call_of, call_size, call_before, call_in_front, behind_colon}
+use Rattle.report_reader.specs.Reading.{CallInFront, call_size, call_before, call_in_front, behind_colon}
 
 none_zero : (n : ℕ) → (n ≡ 0 → ⊥) → (n == 0) ≡ false
 none_zero n h = grind (arith, nat_tests)

@@ -21,16 +21,13 @@ use Rattle.fam_model.specs.declared.report.Report.{Report}
 use Rattle.fam_model.specs.declared.rows.ItemRow.{ItemRow}
 use Rattle.fam_model.specs.declared.rows.RegionRow.{RegionRow}
 use Rattle.fam_model.specs.declared.rows.Rows.{Rows}
-use Rattle.fam_model.specs.declared.script.Script.{Script}
-use Rattle.fam_model.specs.declared.script.Statement.{Statement, One}
 use Rattle.fam_model.specs.EventText.{event_text}
 use Rattle.fam_model.specs.Lists.{◌>>=◌, when}
 use Rattle.fam_model.specs.ReportText.{reply_line_text, region_text, item_text}
 use Rattle.fam_model.specs.Rows.{region_number, item_number}
 use Rattle.fam_model.specs.Values.{is_u32}
 use Rattle.fam_model.specs.Words.{words_text}
-use Rattle.fam_script.specs.Parsing.{parse_of}
-use Rattle.fam_script.specs.Reading.{Words, parts, one_of, two_of, three_of, four_of, five_of, six_of, seven_of, number_of, small_of, slot_of, signed_of, mode_of, hex_of, or_else}
+use Rattle.fam_script.specs.Reading.{Words, parts, one_of, two_of, three_of, four_of, five_of, six_of, seven_of, number_of, small_of, slot_of, signed_of, mode_of, hex_of, or_else, call_of}
 use Rattle.report_reader.specs.EventForm.{is_call_told, event_fits}
 use Rattle.report_reader.specs.Report.{reply_line_fits}
 
@@ -251,33 +248,6 @@ reply_line_of text =
     when (reply_line_fits told && bytes_eq (reply_line_text told) text) told
 
 -- the text of a call
-
--- a script with this text as its one statement
-abbrev pub script_around : List ℕ → List ℕ
-script_around text = codes "service 1 1 64\npe 0 0\n" ++ (text ++ codes "\nend\nstop\n")
-
--- the element, if there is one alone
-abbrev pub only : {A : Type 0} → List A → Option A
-only (x ∷ []) = Some x
-only _ = None
-
-abbrev pub one_call : Statement → Option Call
-one_call (One asked) = Some asked
-one_call _ = None
-
-abbrev pub script_call : Script → Option Call
-script_call script = do
-  program ← only script.programs
-  statement ← only program.statements
-  one_call statement
-
-abbrev pub call_in : Result Script ℕ → Option Call
-call_in (Ok script) = script_call script
-call_in (Err n) = None
-
--- the call whose text this is
-abbrev pub call_of : List ℕ → Option Call
-call_of text = call_in (parse_of (script_around text))
 
 -- how many words a statement has that begins with this one
 abbrev pub is_one_word : List ℕ → Bool
@@ -602,19 +572,3 @@ events_text count = words_text (codes "events" ∷ decimal count ∷ [])
 abbrev pub events_of : List ℕ → Option ℕ
 events_of text =
     two_of (parts 32 text) >>= λ w. number_of w.1 >>= λ n. when (bytes_eq (events_text n) text) n
-
--- reports with one line of their own, with which the text of a line is compared
-abbrev pub no_rows : Rows
-no_rows = record { regions = []; items = []; next_region = 0; next_item = 0 }
-
-abbrev pub reply_report : ReplyLine → Report
-reply_report told = record { replies = told ∷ []; rows = no_rows; history = [] }
-
-abbrev pub event_report : Event → Report
-event_report event = record { replies = []; rows = no_rows; history = event ∷ [] }
-
-abbrev pub region_report : RegionRow → Report
-region_report row = record { replies = []; rows = record no_rows { regions = row ∷ [] }; history = [] }
-
-abbrev pub item_report : ItemRow → Report
-item_report row = record { replies = []; rows = record no_rows { items = row ∷ [] }; history = [] }

@@ -2,6 +2,7 @@
 
 ghost use Rattle.std.specs.Prelude.{◌≡◌, true, IfOk, IfSome};
 ghost use Rattle.std.specs.Str.{bytes_eq};
+ghost use Rattle.fam_model.specs.declared.line.Line.TheVariants.{One};
 ghost use Rattle.fam_model.specs.Grammar.{is_line};
 ghost use Rattle.fam_model.specs.ScriptText.{line_text};
 ghost use Rattle.fam_script.specs.Reading as lines;
@@ -34,6 +35,23 @@ pub fn line(alloc: Global, text: &[u8]) -> Result<Option<Line>, NoMemory>
         Ok(Some(line))
     } else {
         Ok(None)
+    }
+}
+
+/// The call that a text may say. Where the text is that of a call, it is this one.
+pub fn call(alloc: Global, text: &[u8]) -> Result<Option<Call>, NoMemory>
+    ensures call { IfOk result (λ c. c ≡ lines.call_of text.now) }
+    ensures lawful { IfOk result (λ c. IfSome c (λ asked. is_line (One asked) ≡ true)) }
+{
+    let Some(line) = loose_line(alloc, text)? else {
+        return Ok(None);
+    };
+    if !is_lawful(&line) {
+        return Ok(None);
+    }
+    match line {
+        Line::One(call) => Ok(Some(call)),
+        _ => Ok(None),
     }
 }
 
