@@ -12,7 +12,7 @@ use fam_base::NoMemory;
 use fam_model::Call;
 use std::alloc::Global;
 
-/// The call whose text this is.
+/// The call that a text may say.
 fn call(alloc: Global, text: &[u8]) -> Result<Option<Call>, NoMemory>
     ensures call { IfOk result (λ c. c ≡ call_of text.now) }
     ensures told { IfOk result (λ c. IfSome c (λ asked. is_call_told asked ≡ true)) }
