@@ -13,6 +13,8 @@ mod make;
 mod reading;
 mod sim;
 #[cfg(test)]
+mod size_tests;
+#[cfg(test)]
 mod tests;
 mod trial;
 mod wanted;
