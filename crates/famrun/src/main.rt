@@ -8,6 +8,8 @@ mod audit;
 mod command;
 mod ending;
 #[cfg(test)]
+mod journal_tests;
+#[cfg(test)]
 mod made_tests;
 mod make;
 mod playing;

@@ -32,7 +32,8 @@ fn sim<'a>(input: &'a [u8], status: u8, output: &'a [u8]) -> Run<'a> {
     }
 }
 
-fn strings(alloc: Global, words: &[&str]) -> Result<Vec<String>, Fail> {
+/// Texts of their own.
+pub fn strings(alloc: Global, words: &[&str]) -> Result<Vec<String>, Fail> {
     let mut all = Vec::new(alloc);
     for word in words {
         all.push(String::from_str(alloc, word)?)?;
