@@ -137,10 +137,10 @@ ran_over {D} {disk} seed script rows history whole old opened now given new lawf
           played = played seed rows script history whole (disk.state old).faults (disk.state journal.disk).faults lawful scheduled
               (λ low. let later = opens.later in let same = ap (λ d. (disk.state d).faults) disk_is in let n = kept.run.faults (omega (arith, faults, same, low)) in omega (arith, later, n, faults, same));
           leaves = weaker (HasSome (steps.MayBeLeft (opening rows script) course now.stopped)) (HasSome (MayBeLeft (opening rows script) history whole)) (disk.state opened.disk) (disk.state journal.disk) run
-              (λ image has. (has.0, elim has.1 [ inl l ↦ inl l | inr u ↦ inr (more has.0 u) ], has.2));
+              (λ image has. (has.0, elim has.1 [ | inl l ↦ inl l | inr u ↦ inr (more has.0 u) ], has.2));
           remains = λ image left.
               let has = last.since (disk.state journal.disk).moment (omega arith) (omega arith) image left in
-              (has.0, elim has.1 [ inl l ↦ inl l | inr u ↦ inr (more has.0 u) ], has.2);
+              (has.0, elim has.1 [ | inl l ↦ inl l | inr u ↦ inr (more has.0 u) ], has.2);
         })
 
 -- a run is also one so far
@@ -156,8 +156,8 @@ so_far state seed script rows history whole old new r =
         ended = λ e. absurd (false_true e);
       };
       leaves = weaker (HasSome (MayBeLeft (opening rows script) history whole)) (HasSome (MayBeLeft (opening rows script) history false)) (state r.opened) (state new) r.leaves
-          (λ image has. (has.0, elim has.1 [ inl l ↦ inl l | inr m ↦ inr (refl, m.1) ], has.2));
-      remains = λ image left. let has = r.remains image left in (has.0, elim has.1 [ inl l ↦ inl l | inr m ↦ inr (refl, m.1) ], has.2);
+          (λ image has. (has.0, elim has.1 [ | inl l ↦ inl l | inr m ↦ inr (refl, m.1) ], has.2));
+      remains = λ image left. let has = r.remains image left in (has.0, elim has.1 [ | inl l ↦ inl l | inr m ↦ inr (refl, m.1) ], has.2);
     }
   where
     false_true : false ≡ true → ⊥
