@@ -17,6 +17,10 @@ mod reserving;
 mod settling;
 mod switching;
 #[cfg(test)]
+mod crash_tests;
+#[cfg(test)]
+mod opening_tests;
+#[cfg(test)]
 mod tests;
 
 /// The journal of a directory, on a disk.

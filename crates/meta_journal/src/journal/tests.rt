@@ -19,7 +19,7 @@ use std::process::Abort;
 use std::test::Fail;
 
 /// The bytes of a journal with no changes.
-const EMPTY: [u8; 17] = [
+pub(crate) const EMPTY: [u8; 17] = [
     0x46, 0x41, 0x4d, 0x4a, 2, 0, 0, 0, 0, 0, 0, 0, 0, 0, 0, 0, 0,
 ];
 
@@ -34,11 +34,26 @@ fn new_journal(
     ensures sound { IfOk result (λ journal. IsSound journal) }
     ensures rows { IfOk result (λ journal. rows_of (acknowledged journal) ≡ words.common_rows) }
 {
+    new_journal_on(alloc, limit, &[], failing_syncs)
+}
+
+/// The same where some writes fail too.
+pub(crate) fn new_journal_on(
+    alloc: Global,
+    limit: u64,
+    failing_writes: &[u64],
+    failing_syncs: &[u64],
+) -> Result<Journal<MemDisk>, NoMemory>
+    requires from { 17 ≤ limit }
+    requires to { limit ≤ 2 ^ 24 }
+    ensures sound { IfOk result (λ journal. IsSound journal) }
+    ensures rows { IfOk result (λ journal. rows_of (acknowledged journal) ≡ words.common_rows) }
+{
     let disk = MemDisk::new(
         alloc,
         Bytes::of(alloc, &EMPTY)?,
         Places::new(alloc),
-        Places::new(alloc),
+        Places::of(alloc, failing_writes)?,
         Places::of(alloc, failing_syncs)?,
     );
     Ok(Journal {
@@ -53,7 +68,7 @@ fn new_journal(
 }
 
 /// The change that creates a region of a good name.
-fn creation(alloc: Global, number: u64, name: &str) -> Result<Change, NoMemory>
+pub(crate) fn creation(alloc: Global, number: u64, name: &str) -> Result<Change, NoMemory>
     ensures { IfOk result (λ change. HasBody change) }
 {
     let name = Bytes::of(alloc, name.as_bytes())?;
@@ -70,7 +85,8 @@ fn creation(alloc: Global, number: u64, name: &str) -> Result<Change, NoMemory>
     })
 }
 
-fn destruction(number: u64) -> Change
+/// The change that ends a region.
+pub(crate) fn destruction(number: u64) -> Change
     ensures { HasBody result }
 {
     Change::DestroyRegion {
@@ -79,7 +95,7 @@ fn destruction(number: u64) -> Change
 }
 
 /// Appends a change, and makes it in the rows.
-fn play(
+pub(crate) fn play(
     rt: &impl Abort,
     alloc: Global,
     journal: &mut Journal<MemDisk>,
