@@ -21,47 +21,6 @@ use std::test::Fail;
 /// The limit of the journals here.
 const LIMIT: u64 = 200;
 
-/// A journal and its rows.
-#[derive(Drop)]
-struct Stand {
-    journal: Journal<MemDisk>,
-    rows: Rows,
-    ghost stands: { IsSound journal × (rows_of (acknowledged journal) ≡ rows) × IsLawful rows },
-}
-
-/// A journal with no changes, some of whose writes and syncs fail, counted from 1.
-fn new_stand(
-    alloc: Global,
-    failing_writes: &[u64],
-    failing_syncs: &[u64],
-) -> Result<Stand, NoMemory> {
-    let rows = common_rows(alloc)?;
-    let journal = new_journal_on(alloc, LIMIT, failing_writes, failing_syncs)?;
-    Ok(Stand { journal, rows })
-}
-
-/// What came of a change.
-#[derive(Drop)]
-struct Tried {
-    stand: Stand,
-    result: Result<(), FamError>,
-}
-
-/// Appends a change, and makes it in the rows.
-fn append(rt: &impl Abort, alloc: Global, stand: Stand, change: Change) -> Tried
-    requires { HasBody change }
-{
-    let Stand {
-        mut journal,
-        mut rows,
-    } = stand;
-    let result = play(rt, alloc, &mut journal, &mut rows, change);
-    Tried {
-        stand: Stand { journal, rows },
-        result,
-    }
-}
-
 /// The change that allocates an item of a good name at the start of a region.
 fn allocation(alloc: Global, item: u64, region: u64, name: &str) -> Result<Change, NoMemory>
     ensures { IfOk result (λ change. HasBody change) }
@@ -124,22 +83,18 @@ fn script_change(alloc: Global, place: usize) -> Result<Change, NoMemory>
     }
 }
 
-/// The short form of the rows, by which rows are compared here.
-fn form_of(alloc: Global, stand: &Stand) -> Result<Bytes, NoMemory> {
-    short_form(alloc, &stand.rows)
-}
-
-/// The short forms of the rows before each change of the script, and behind the last one.
+/// The short forms of the rows before each change of the script, and behind the last one. Rows are compared by them.
 fn script_forms(rt: &impl Abort, alloc: Global) -> Result<Vec<Bytes>, Fail> {
     let mut forms = Vec::new(alloc);
-    let mut stand = new_stand(alloc, &[], &[])?;
-    forms.push(form_of(alloc, &stand)?)?;
+    let mut rows = common_rows(alloc)?;
+    let mut journal = new_journal_on(alloc, LIMIT, &[], &[])?;
     for place in 0..CHANGES {
-        let tried = append(rt, alloc, stand, script_change(alloc, place)?);
-        assert_eq!(rt; tried.result, Ok(()));
-        stand = tried.stand;
-        forms.push(form_of(alloc, &stand)?)?;
+        forms.push(short_form(alloc, &rows)?)?;
+        let change = script_change(alloc, place)?;
+        let result = play(rt, alloc, &mut journal, &mut rows, change);
+        assert_eq!(rt; result, Ok(()));
     }
+    forms.push(short_form(alloc, &rows)?)?;
     Ok(forms)
 }
 
@@ -240,51 +195,65 @@ fn check_moments(
 fn step(
     rt: &impl Abort,
     alloc: Global,
-    stand: Stand,
+    journal: &mut Journal<MemDisk>,
+    rows: &mut Rows,
     place: usize,
     forms: &[Bytes],
-) -> Result<Tried, Fail> {
+) -> Result<Result<(), FamError>, Fail>
+    requires sound { IsSound journal.old }
+    requires same { rows_of (acknowledged journal.old) ≡ rows.old }
+    requires lawful { IsLawful rows.old }
+    ensures sound { IsSound journal.new }
+    ensures same { rows_of (acknowledged journal.new) ≡ rows.new }
+    ensures lawful { IsLawful rows.new }
+{
     let before = form_at(forms, place);
     let behind = form_at(forms, place.saturating_add(1));
-    let from = stand.journal.disk.moment();
-    let tried = append(rt, alloc, stand, script_change(alloc, place)?);
-    let disk = &tried.stand.journal.disk;
-    let to = disk.moment();
+    let from = journal.disk.moment();
+    let change = script_change(alloc, place)?;
+    let result = play(rt, alloc, journal, rows, change);
+    let to = journal.disk.moment();
     let allowed = Allowed {
         acknowledged: before,
         in_flight: behind,
         in_doubt: before,
     };
-    check_moments(rt, alloc, disk, from, to, allowed)?;
-    match tried.result {
-        Ok(()) => check_moment(rt, alloc, disk, to, only(behind))?,
-        Err(_) => check_moment(rt, alloc, disk, to, allowed)?,
-    }
-    Ok(tried)
+    check_moments(rt, alloc, &journal.disk, from, to, allowed)?;
+    let last = if result.is_ok() {
+        only(behind)
+    } else {
+        allowed
+    };
+    check_moment(rt, alloc, &journal.disk, to, last)?;
+    Ok(result)
 }
 
 /// One more change is served behind one at a place of the script that failed.
 fn go_on(
     rt: &impl Abort,
     alloc: Global,
-    stand: Stand,
+    journal: &mut Journal<MemDisk>,
+    rows: &mut Rows,
     place: usize,
     forms: &[Bytes],
-) -> Result<(), Fail> {
-    let from = stand.journal.disk.moment();
-    let change = creation(alloc, stand.rows.next_region, "z")?;
-    let tried = append(rt, alloc, stand, change);
-    assert_eq!(rt; tried.result, Ok(()), "place {place}");
-    let behind = form_of(alloc, &tried.stand)?;
-    let disk = &tried.stand.journal.disk;
-    let to = disk.moment();
+) -> Result<(), Fail>
+    requires sound { IsSound journal.old }
+    requires same { rows_of (acknowledged journal.old) ≡ rows.old }
+    requires lawful { IsLawful rows.old }
+{
+    let from = journal.disk.moment();
+    let change = creation(alloc, rows.next_region, "z")?;
+    let result = play(rt, alloc, journal, rows, change);
+    assert_eq!(rt; result, Ok(()), "place {place}");
+    let behind = short_form(alloc, rows)?;
+    let to = journal.disk.moment();
     let allowed = Allowed {
         acknowledged: form_at(forms, place),
         in_flight: behind.as_slice(),
         in_doubt: form_at(forms, place.saturating_add(1)),
     };
-    check_moments(rt, alloc, disk, from, to, allowed)?;
-    check_moment(rt, alloc, disk, to, only(behind.as_slice()))
+    check_moments(rt, alloc, &journal.disk, from, to, allowed)?;
+    check_moment(rt, alloc, &journal.disk, to, only(behind.as_slice()))
 }
 
 /// Plays the script up to its first failure, and then one change more. Says whether there was a failure.
@@ -295,13 +264,13 @@ fn play_script(
     failing_syncs: &[u64],
     forms: &[Bytes],
 ) -> Result<bool, Fail> {
-    let mut stand = new_stand(alloc, failing_writes, failing_syncs)?;
+    let mut rows = common_rows(alloc)?;
+    let mut journal = new_journal_on(alloc, LIMIT, failing_writes, failing_syncs)?;
     for place in 0..CHANGES {
-        let tried = step(rt, alloc, stand, place, forms)?;
-        stand = tried.stand;
-        if let Err(error) = tried.result {
+        let result = step(rt, alloc, &mut journal, &mut rows, place, forms)?;
+        if let Err(error) = result {
             assert_eq!(rt; error, FamError::DiskFault);
-            go_on(rt, alloc, stand, place, forms)?;
+            go_on(rt, alloc, &mut journal, &mut rows, place, forms)?;
             return Ok(true);
         }
     }

@@ -1,0 +1,8 @@
+use Rattle.std.specs.Prelude.{◌≡◌}
+use Rattle.fam_model.specs.Journal.{rows_of}
+use Rattle.fam_model.specs.Rows.{IsLawful}
+use Rattle.meta_journal.specs.State.{IsSound, acknowledged}
+use Rattle.meta_journal.proofs.journal.crash_tests.play_script.Given as goal
+
+abbrev pub invariant-loop-place : goal.invariant-loop-place
+invariant-loop-place l = IsSound l.journal × (rows_of (acknowledged l.journal) ≡ l.rows) × IsLawful l.rows
