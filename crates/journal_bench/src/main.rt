@@ -1,8 +1,8 @@
 //! Appends changes to a journal in a file, and opens one.
 //!
 //! `journal_bench append N` makes the file bench.journal anew and appends N changes. `few N` and `many N` write a journal of
-//! N records there at once: regions that come and go, and one region with items. `open` opens it. Each prints the place
-//! behind the records.
+//! N records there at once: regions that come and go, and one region with items. `open N` opens it N times. Each prints the
+//! place behind the records.
 #![tactic(auto)]
 
 ghost use Rattle.std.specs.Prelude.{◌≡◌, ◌<◌, ◌≤◌, IfOk, IfSome};
@@ -41,7 +41,7 @@ impl From<NoMemory> for Fault {
     }
 }
 
-/// What is to be done, and with how many changes.
+/// What is to be done.
 #[derive(Clone, Copy, Debug, PartialEq, Eq)]
 enum Work {
     Append,
@@ -215,6 +215,18 @@ fn write(alloc: Global, disk: FileDisk, is_many: bool, count: u64) -> Result<u64
     }
 }
 
+/// Opens the journal so often.
+fn open_all(alloc: Global, disk: FileDisk, count: u64) -> Result<u64, Fault> {
+    let mut disk = disk;
+    let mut place = 0;
+    for _ in 0..count {
+        let (journal, _rows) = opened(alloc, disk)?;
+        place = journal.used();
+        disk = journal.close();
+    }
+    Ok(place)
+}
+
 /// Does the work, and gives the place behind the records.
 fn done(alloc: Global, disk: FileDisk, work: Work, count: u64) -> Result<u64, Fault>
     requires { count ≤ 65_000 }
@@ -223,7 +235,7 @@ fn done(alloc: Global, disk: FileDisk, work: Work, count: u64) -> Result<u64, Fa
         Work::Append => append_all(alloc, disk, count),
         Work::Few => write(alloc, disk, false, count),
         Work::Many => write(alloc, disk, true, count),
-        Work::Open => Ok(opened(alloc, disk)?.0.used()),
+        Work::Open => open_all(alloc, disk, count),
     }
 }
 

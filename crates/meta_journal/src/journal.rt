@@ -12,14 +12,14 @@ use std::alloc::Global;
 
 mod adding;
 mod appending;
+#[cfg(test)]
+mod crash_tests;
 mod opening;
+#[cfg(test)]
+mod opening_tests;
 mod reserving;
 mod settling;
 mod switching;
-#[cfg(test)]
-mod crash_tests;
-#[cfg(test)]
-mod opening_tests;
 #[cfg(test)]
 mod tests;
 

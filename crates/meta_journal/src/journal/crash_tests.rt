@@ -158,7 +158,10 @@ fn check_image(
     let fill = Bytes::of(alloc, &[byte; 256])?;
     let image = disk.image(moment, &fill)?;
     let form = form_of_image(rt, alloc, image)?;
-    assert!(rt; allowed.has(form.as_slice()), "moment {moment}, byte {byte}");
+    assert!(rt;
+        allowed.has(form.as_slice()),
+        "moment {moment}, byte {byte}"
+    );
     Ok(())
 }
 

@@ -109,5 +109,5 @@ returns-in_err-add-clause-not_yet g c =
     on_err _ (elim c.in_err-add.ensures.not_yet [
       | inl doubts ↦ inl doubts
       | inr run ↦ inr (rows_so_far j.limit A j.doubt change (D j.disk) (D c.make_room.new.self.disk) (D c.add.new.self.disk)
-        c.make_room.new.self.limit (acknowledged c.make_room.new.self) (room.limit ∙ settled.same.limit) (room.same_rows ∙ ap rows_of settled.acknowledged) so_far run)
+          c.make_room.new.self.limit (acknowledged c.make_room.new.self) (room.limit ∙ settled.same.limit) (room.same_rows ∙ ap rows_of settled.acknowledged) so_far run)
     ])
