@@ -4,7 +4,7 @@ use Rattle.std.specs.List.{All, AllPairs, find, list_all, sum_by}
 use Rattle.std.specs.Option.{option_map}
 use Rattle.std.specs.Str.{bytes_eq}
 use Rattle.std.specs.Vec.{vec_len, vec_capacity}
-use Rattle.std.proofs.lemmas.Bool.{false≢true, leb-true, ltb-true, and_parts}
+use Rattle.std.proofs.lemmas.Bool.{eqb-true, false≢true, leb-true, ltb-true, and_parts}
 use Rattle.fam_base.specs.Name.{is_good_name}
 use Rattle.fam_base.specs.declared.naming.ItemId.{ItemId}
 use Rattle.fam_base.specs.declared.naming.RegionId.{RegionId}
@@ -27,6 +27,7 @@ use Rattle.fam_directory.specs.declared.region.Coming.{Coming}
 use Rattle.fam_directory.specs.declared.region.Region.{Region}
 use Rattle.fam_directory.specs.Index.{HasRoom, IsAwaited, IsIndexOf, IsIndexed, NewName, adds_item, adds_region, new_name, number_of, rows_of, waits_for}
 use Rattle.fam_directory.specs.Names.{NameMap, named}
+use Rattle.fam_directory.specs.Slots.{ItemList}
 use Rattle.fam_directory.proofs.Changed.{number_at, new_rows, created}
 use Rattle.fam_directory.proofs.Indexes.{replaced}
 use Rattle.fam_directory.proofs.Lookups.{numbers_rise}
@@ -43,17 +44,17 @@ is_held (Some coming) w e = refl
 pub held_name : (o : Option Coming) (coming : Coming) (w : NewName) → o ≡ Some coming → option_map new_name o ≡ Some w → new_name coming ≡ w
 held_name o coming w is e = let both : Some (new_name coming) ≡ Some w = sym (ap (option_map new_name) is) ∙ e in cc both
 
-for_region : {Z : Type 0} (regions : Vec Region Z) (items : Vec ItemRow Z) (names : NameMap) (number : Option RegionId) → option_map (λ (r : RegionId). r.0) number ≡ None → HasRoom regions items names number → (vec_len regions < vec_capacity regions) × (names.is_ready ≡ true)
+for_region : {Z : Type 0} (regions : Vec Region Z) (items : ItemList) (names : NameMap) (number : Option RegionId) → option_map (λ (r : RegionId). r.0) number ≡ None → HasRoom regions items names number → (vec_len regions < vec_capacity regions) × (names.is_ready ≡ true)
 for_region regions items names None e h = h
 for_region regions items names (Some number) e h = absurd (cc e)
 
-for_item : {Z : Type 0} (regions : Vec Region Z) (items : Vec ItemRow Z) (names : NameMap) (n : ℕ) (number : Option RegionId) → option_map (λ (r : RegionId). r.0) number ≡ Some n → HasRoom regions items names number → (vec_len items < vec_capacity items) × All (λ region. number_of region ≡ n → (region.items.is_ready ≡ true) × (region.room.is_ready ≡ true)) regions.items
+for_item : {Z : Type 0} (regions : Vec Region Z) (items : ItemList) (names : NameMap) (n : ℕ) (number : Option RegionId) → option_map (λ (r : RegionId). r.0) number ≡ Some n → HasRoom regions items names number → (items.is_ready ≡ true) × All (λ region. number_of region ≡ n → (region.items.is_ready ≡ true) × (region.room.is_ready ≡ true)) regions.items
 for_item regions items names n None e h = absurd (cc e)
 for_item regions items names n (Some number) e h =
     let same : number.0 ≡ n = cc e in
     (h.0, λ k d lt number_is. h.1 k d lt (number_is ∙ sym same))
 
-pub room_for_region : {Z : Type 0} (regions : Vec Region Z) (items : Vec ItemRow Z) (names : NameMap) (o : Option Coming) (coming : Coming) (name : List ℕ) → IsAwaited regions items names o → o ≡ Some coming → option_map new_name o ≡ Some (waits_for None name) →
+pub room_for_region : {Z : Type 0} (regions : Vec Region Z) (items : ItemList) (names : NameMap) (o : Option Coming) (coming : Coming) (name : List ℕ) → IsAwaited regions items names o → o ≡ Some coming → option_map new_name o ≡ Some (waits_for None name) →
     (coming.key ≡ name) × (coming.name ≡ name) × (vec_len regions < vec_capacity regions) × (names.is_ready ≡ true)
 room_for_region regions items names o coming name h is e =
     let held = held_name o coming (waits_for None name) is e in
@@ -62,8 +63,8 @@ room_for_region regions items names o coming name h is e =
     let room = for_region regions items names coming.region (ap (λ (w : NewName). w.region) held) awaited.1 in
     (awaited.0 ∙ name_is, name_is, room.0, room.1)
 
-pub room_for_item : {Z : Type 0} (regions : Vec Region Z) (items : Vec ItemRow Z) (names : NameMap) (o : Option Coming) (coming : Coming) (n : ℕ) (name : List ℕ) → IsAwaited regions items names o → o ≡ Some coming → option_map new_name o ≡ Some (waits_for (Some n) name) →
-    (coming.key ≡ name) × (coming.name ≡ name) × (vec_len items < vec_capacity items) × All (λ region. number_of region ≡ n → (region.items.is_ready ≡ true) × (region.room.is_ready ≡ true)) regions.items
+pub room_for_item : {Z : Type 0} (regions : Vec Region Z) (items : ItemList) (names : NameMap) (o : Option Coming) (coming : Coming) (n : ℕ) (name : List ℕ) → IsAwaited regions items names o → o ≡ Some coming → option_map new_name o ≡ Some (waits_for (Some n) name) →
+    (coming.key ≡ name) × (coming.name ≡ name) × (items.is_ready ≡ true) × All (λ region. number_of region ≡ n → (region.items.is_ready ≡ true) × (region.room.is_ready ≡ true)) regions.items
 room_for_item regions items names o coming n name h is e =
     let held = held_name o coming (waits_for (Some n) name) is e in
     let awaited = subst (IsAwaited regions items names) is h in
@@ -99,6 +100,13 @@ new_item rows i n base size uid gid mode name ok =
     let parts = five_parts (is_next_number i.0 rows.next_item) (is_good_row uid mode size name) (is_none (item_named rows n.0 name)) (ltb (length rows.items) max_items) (is_some_and (region_of rows n.0) (λ row. fits rows row size base)) ok in
     let numbers = and_parts (eqb i.0 rows.next_item) (ltb i.0 number_end) parts.0 in
     (ltb-true _ _ numbers.1, nothing_there (item_named rows n.0 name) parts.2, parts.4)
+
+pub new_number : (rows : Rows) (i : ItemId) (n : RegionId) (base size uid gid mode : ℕ) (name : List ℕ) → is_lawful_change rows (change.Allocate i n base size uid gid mode name) ≡ true → rows.next_item ≤ i.0
+new_number rows i n base size uid gid mode name ok =
+    let parts = five_parts (is_next_number i.0 rows.next_item) (is_good_row uid mode size name) (is_none (item_named rows n.0 name)) (ltb (length rows.items) max_items) (is_some_and (region_of rows n.0) (λ row. fits rows row size base)) ok in
+    let numbers = and_parts (eqb i.0 rows.next_item) (ltb i.0 number_end) parts.0 in
+    let same = eqb-true i.0 rows.next_item numbers.0 in
+    omega (arith, same)
 
 pub new_place : (regions : List Region) (items : List ItemRow) (a b k : ℕ) (n : RegionId) (base size : ℕ) (x : Region) → All (IsIndexOf (rows_of regions items a b)) regions → is_some_and (region_of (rows_of regions items a b) n.0) (λ row. fits (rows_of regions items a b) row size base) ≡ true → place_of number_of n.0 regions ≡ Some k → k < length regions → x ≡ get_or regions k x →
     IsIndexOf (rows_of regions items a b) x × (fits (rows_of regions items a b) x.row size base ≡ true) × (has_place x.room size base ≡ true)
@@ -176,8 +184,8 @@ pub ready_there : (regions : List Region) (n k : ℕ) (now : Region) → AllPair
 ready_there regions n k now rise at lt named_ready placed_ready =
     set_all number_of (λ region. Unit {0}) (λ region. number_of region ≡ n → (region.items.is_ready ≡ true) × (region.room.is_ready ≡ true)) n k regions now rise lt (number_at regions n k now at lt) (λ j d within. tt) (λ r other h is. absurd (other is)) (λ is. (named_ready, placed_ready))
 
-pub holds_region : {Z : Type 0} (regions : Vec Region Z) (items : Vec ItemRow Z) (names : NameMap) (number : Option RegionId) → number ≡ None → vec_len regions < vec_capacity regions → names.is_ready ≡ true → HasRoom regions items names number
+pub holds_region : {Z : Type 0} (regions : Vec Region Z) (items : ItemList) (names : NameMap) (number : Option RegionId) → number ≡ None → vec_len regions < vec_capacity regions → names.is_ready ≡ true → HasRoom regions items names number
 holds_region regions items names number is few ready = subst (HasRoom regions items names) (sym is) (few, ready)
 
-pub holds_item : {Z : Type 0} (regions : Vec Region Z) (items : Vec ItemRow Z) (names : NameMap) (number : Option RegionId) (n : RegionId) → number ≡ Some n → vec_len items < vec_capacity items → All (λ region. number_of region ≡ n.0 → (region.items.is_ready ≡ true) × (region.room.is_ready ≡ true)) regions.items → HasRoom regions items names number
+pub holds_item : {Z : Type 0} (regions : Vec Region Z) (items : ItemList) (names : NameMap) (number : Option RegionId) (n : RegionId) → number ≡ Some n → items.is_ready ≡ true → All (λ region. number_of region ≡ n.0 → (region.items.is_ready ≡ true) × (region.room.is_ready ≡ true)) regions.items → HasRoom regions items names number
 holds_item regions items names number n is few ready = subst (HasRoom regions items names) (sym is) (few, ready)

@@ -1,4 +1,5 @@
 pub mod Adding
+pub mod Carried
 pub mod Changed
 pub mod Chosen
 pub mod Destroyed
@@ -7,5 +8,6 @@ pub mod Lookups
 pub mod Moves
 pub mod Naming
 pub mod Placed
+pub mod Slotted
 pub mod Steps
 pub mod TakenOver

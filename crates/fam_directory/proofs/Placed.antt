@@ -104,7 +104,7 @@ all_others rows lawful k x lt is j d within = elim (cases_eq j k) [
   swap_sides a b (inr h) = inl h
 
 -- the others of its region
-others_here : (rows : Rows) (x : ItemRow) → All (IsOther x) rows.items → All (λ y. (y ≡ x) ⊎ ((item_number y ≢ item_number x) × ((y.name ≢ x.name) × (y.base ≢ x.base)))) (items_in rows x.region.0)
+pub others_here : (rows : Rows) (x : ItemRow) → All (IsOther x) rows.items → All (λ y. (y ≡ x) ⊎ ((item_number y ≢ item_number x) × ((y.name ≢ x.name) × (y.base ≢ x.base)))) (items_in rows x.region.0)
 others_here rows x all k d lt =
     let test : ItemRow → Bool = λ y. eqb y.region.0 x.region.0 in
     let inside : (get_or (items_in rows x.region.0) k d).region.0 ≡ x.region.0 = eqb-true _ _ (filter_passes test rows.items k d lt) in

@@ -13,7 +13,8 @@ use Rattle.fam_model.specs.declared.rows.ItemRow.{ItemRow}
 use Rattle.fam_model.specs.declared.rows.RegionRow.{RegionRow}
 use Rattle.fam_model.specs.declared.rows.Rows.{Rows}
 use Rattle.fam_model.specs.Lists.{find_number, is_some_and}
-use Rattle.fam_model.specs.Rows.{IsLawful, AreApart, region_number, region_of, item_named, items_in, room, room_end, is_beside, fits}
+use Rattle.fam_model.specs.Rows.{IsLawful, AreApart, item_number, region_number, region_of, item_named, items_in, room, room_end, is_beside, fits}
+use Rattle.fam_rows.proofs.Places.{rises}
 use Rattle.fam_rows.proofs.Standing.{tested}
 use Rattle.fam_directory.specs.declared.region.Region.{Region}
 use Rattle.fam_directory.specs.Index.{IsIndexOf, number_of, rows_of, named_in, without_items}
@@ -120,3 +121,17 @@ pub indexes_same : (rows new : Rows) (regions : List Region) → rows.items ≡ 
 indexes_same rows new regions same all k d lt =
     let r = get_or regions k d in
     index_kept rows new r (ap (filter (λ (x : ItemRow). eqb x.region.0 (number_of r))) same) (all k d lt)
+
+-- the next number after an item
+
+pub next_passed : (rows : Rows) → IsLawful rows → (k : ℕ) (x d : ItemRow) → k < length rows.items → x ≡ get_or rows.items k x → k + 1 < length rows.items → item_number x + 1 ≤ item_number (get_or rows.items (k + 1) d)
+next_passed rows lawful k x d lt is within =
+    let less = rises item_number rows.items lawful.item_numbers_rise k (k + 1) d (omega arith) within in
+    let same = ap item_number (is ∙ get_or_default rows.items k x d lt) in
+    omega (arith, less, same)
+
+pub next_within : (rows : Rows) → IsLawful rows → (k : ℕ) (x : ItemRow) → k < length rows.items → x ≡ get_or rows.items k x → item_number x + 1 ≤ rows.next_item
+next_within rows lawful k x lt is =
+    let less = (lawful.items k x lt).number in
+    let same = ap item_number is in
+    omega (arith, less, same)

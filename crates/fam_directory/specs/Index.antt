@@ -13,6 +13,7 @@ use Rattle.fam_model.specs.Rows.{IsLawful, region_number, item_number, region_of
 use Rattle.fam_directory.specs.declared.region.Region.{Region}
 use Rattle.fam_directory.specs.declared.region.Coming.{Coming}
 use Rattle.fam_directory.specs.Names.{NameMap, named}
+use Rattle.fam_directory.specs.Slots.{ItemList}
 use Rattle.region_alloc.specs.Items.{IsSpaceOf}
 
 -- the name of a new row: that of an item in a region, or else of a region
@@ -78,14 +79,14 @@ abbrev pub new_name : Coming → NewName
 new_name coming = record { region = option_map (λ region. region.0) coming.region; name = coming.name }
 
 -- there is memory for one more row, and for its name
-abbrev pub HasRoom : {Z : Type 0} → Vec Region Z → Vec ItemRow Z → NameMap → Option RegionId → Type 0
+abbrev pub HasRoom : {Z : Type 0} → Vec Region Z → ItemList → NameMap → Option RegionId → Type 0
 HasRoom regions items names None = (vec_len regions < vec_capacity regions) × (names.is_ready ≡ true)
 HasRoom regions items names (Some number) =
-    (vec_len items < vec_capacity items)
+    (items.is_ready ≡ true)
     × All (λ region. number_of region ≡ number.0 → (region.items.is_ready ≡ true) × (region.room.is_ready ≡ true)) regions.items
 
 -- a row that comes has its name twice, and memory is held for it
-abbrev pub IsAwaited : {Z : Type 0} → Vec Region Z → Vec ItemRow Z → NameMap → Option Coming → Type 0
+abbrev pub IsAwaited : {Z : Type 0} → Vec Region Z → ItemList → NameMap → Option Coming → Type 0
 IsAwaited regions items names None = Unit {0}
 IsAwaited regions items names (Some coming) = (coming.key ≡ coming.name) × HasRoom regions items names coming.region
 

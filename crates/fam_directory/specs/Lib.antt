@@ -1,3 +1,4 @@
 pub mod Answers
 pub mod Index
 pub mod Names
+pub mod Slots

@@ -1,17 +1,19 @@
 //! The directory of given rows, and the rows of a directory.
 
-ghost use Rattle.std.specs.Prelude.{◌≡◌, ◌≢◌, ℕ, List, [], ◌∷◌, ◌++◌, true, None, Some, IfOk, OnOk, map, All, AllPairs, if◌then◌else◌};
+ghost use Rattle.std.specs.Prelude.{◌≡◌, ◌≢◌, ◌+◌, ◌<◌, ◌≤◌, ℕ, List, [], ◌∷◌, ◌++◌, true, None, Some, IfOk, OnOk, map, All, AllPairs, if◌then◌else◌};
 ghost use Rattle.std.specs.Str.{bytes_eq};
 ghost use Rattle.std.specs.List.Sorted.{IsStrictlyIncreasing};
+ghost use Rattle.fam_model.specs.Limits.{number_end};
 ghost use Rattle.fam_model.specs.Lists.{is_some_and};
 ghost use Rattle.fam_model.specs.Rows as row_words;
-ghost use Rattle.fam_model.specs.Rows.{IsLawful, fits, item_named, region_of};
+ghost use Rattle.fam_model.specs.Rows.{IsLawful, fits, item_named, item_number, region_of};
 ghost use Rattle.fam_directory.specs.Index.{IsIndexOf, number_of, rows_of, without_items};
 ghost use Rattle.fam_directory.specs.Names.{named};
 ghost use Rattle.fam_directory.specs.Index.{named_in};
 
 use crate::copying::{copy_item, copy_region};
 use crate::directory::Directory;
+use crate::items::Items;
 use crate::names::Names;
 use crate::region::Region;
 use crate::searching::place_there;
@@ -33,7 +35,6 @@ impl Directory {
             regions,
             items,
             next_region: rows.next_region,
-            next_item: rows.next_item,
             total: total_of(rows),
             names,
             coming: None,
@@ -46,12 +47,12 @@ impl Directory {
         ensures lawful { IfOk result (λ rows. IsLawful rows) }
     {
         let regions = region_rows(self.alloc, self.regions.as_slice())?;
-        let items = item_rows(self.alloc, self.items.as_slice())?;
+        let items = self.items.copies(self.alloc)?;
         Ok(Rows {
             regions,
             items,
             next_region: self.next_region,
-            next_item: self.next_item,
+            next_item: self.items.next(),
         })
     }
 }
@@ -71,17 +72,6 @@ fn region_rows(alloc: Global, regions: &[Region]) -> Result<Sequence<RegionRow>,
     let mut rows = Sequence::new(alloc);
     for region in regions {
         rows.push(copy_region(alloc, &region.row)?)?;
-    }
-    Ok(rows)
-}
-
-/// Copies of the rows of items.
-fn item_rows(alloc: Global, items: &[ItemRow]) -> Result<Sequence<ItemRow>, NoMemory>
-    ensures { IfOk result (λ rows. rows ≡ items.now) }
-{
-    let mut rows = Sequence::new(alloc);
-    for item in items {
-        rows.push(copy_item(alloc, item)?)?;
     }
     Ok(rows)
 }
@@ -124,22 +114,20 @@ fn empty_regions(alloc: Global, rows: &Rows) -> Result<Vec<Region>, NoMemory>
 }
 
 /// Adds all items to the indexes of their regions, and gives copies of their rows.
-fn add_items(
-    alloc: Global,
-    regions: &mut Vec<Region>,
-    rows: &Rows,
-) -> Result<Vec<ItemRow>, NoMemory>
+fn add_items(alloc: Global, regions: &mut Vec<Region>, rows: &Rows) -> Result<Items, NoMemory>
     requires lawful { IsLawful rows.now }
     requires rows { map (λ region. region.row) regions.old.items ≡ rows.now.regions }
     requires indexes { All (IsIndexOf (without_items rows.now)) regions.old.items }
-    ensures items { IfOk result (λ items. items.items ≡ rows.now.items) }
+    ensures items { IfOk result (λ items. items.rows ≡ rows.now.items) }
+    ensures next { IfOk result (λ items. items.next ≡ rows.now.next_item) }
     ensures rows { OnOk result (map (λ region. region.row) regions.new.items ≡ rows.now.regions) }
     ensures indexes { OnOk result (All (IsIndexOf rows.now) regions.new.items) }
 {
-    let mut items = Vec::new(alloc);
+    let mut items = Items::new(alloc);
     for item in rows.items.as_slice() {
         add_item(alloc, regions, &mut items, item)?;
     }
+    items.pass(rows.next_item);
     Ok(items)
 }
 
@@ -147,21 +135,24 @@ fn add_items(
 fn add_item(
     alloc: Global,
     regions: &mut Vec<Region>,
-    items: &mut Vec<ItemRow>,
+    items: &mut Items,
     item: &ItemRow,
 ) -> Result<(), NoMemory>
     requires rise { IsStrictlyIncreasing (map number_of regions.old.items) }
-    requires indexes { All (IsIndexOf (rows_of regions.old.items items.old.items 0 0)) regions.old.items }
-    requires absent { item_named (rows_of regions.old.items items.old.items 0 0) item.now.region.0 item.now.name ≡ None }
-    requires fits { is_some_and (region_of (rows_of regions.old.items items.old.items 0 0) item.now.region.0) (λ row. fits (rows_of regions.old.items items.old.items 0 0) row item.now.size item.now.base) ≡ true }
-    ensures items { OnOk result (items.new.items ≡ items.old.items ++ item.now ∷ []) }
+    requires indexes { All (IsIndexOf (rows_of regions.old.items items.old.rows 0 0)) regions.old.items }
+    requires absent { item_named (rows_of regions.old.items items.old.rows 0 0) item.now.region.0 item.now.name ≡ None }
+    requires fits { is_some_and (region_of (rows_of regions.old.items items.old.rows 0 0) item.now.region.0) (λ row. fits (rows_of regions.old.items items.old.rows 0 0) row item.now.size item.now.base) ≡ true }
+    requires next { items.old.next ≤ item_number item.now }
+    requires bound { item_number item.now < number_end }
+    ensures items { OnOk result (items.new.rows ≡ items.old.rows ++ item.now ∷ []) }
+    ensures next { OnOk result (items.new.next ≡ item_number item.now + 1) }
     ensures rows { OnOk result (map (λ region. region.row) regions.new.items ≡ map (λ region. region.row) regions.old.items) }
-    ensures indexes { OnOk result (All (IsIndexOf (rows_of regions.new.items items.new.items 0 0)) regions.new.items) }
+    ensures indexes { OnOk result (All (IsIndexOf (rows_of regions.new.items items.new.rows 0 0)) regions.new.items) }
 {
     let key = Sequence::of(alloc, item.name.as_slice())?;
     let copy = copy_item(alloc, item)?;
     let place = place_there(regions.as_slice(), item.region);
     regions[place].insert(key, item.number, item.base, item.size)?;
-    items.push(copy)?;
+    items.insert(copy)?;
     Ok(())
 }

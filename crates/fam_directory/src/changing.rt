@@ -1,7 +1,6 @@
 //! Changes of the rows.
 
-ghost use Rattle.std.specs.Prelude.{◌≡◌, ◌==◌, not, true, None, Some, OnOk, IsTrue};
-ghost use Rattle.std.specs.List.{filter};
+ghost use Rattle.std.specs.Prelude.{◌≡◌, true, None, Some, OnOk, IsTrue};
 ghost use Rattle.fam_model.specs.Directory as words;
 ghost use Rattle.fam_model.specs.Lawful.{is_lawful_change};
 ghost use Rattle.fam_model.specs.Lists.{is_some_and};
@@ -11,16 +10,9 @@ ghost use Rattle.fam_directory.specs.Index.{IsReserved, adds_item, adds_region, 
 
 use crate::directory::Directory;
 use crate::region::{Coming, Region, take_coming};
-use crate::searching::{item_there, place_there};
+use crate::searching::place_there;
 use fam_base::{ItemId, Mode, NoMemory, RegionId};
 use fam_model::{Change, ItemRow, RegionRow};
-
-/// Takes the items of a region out.
-fn drop_items(items: &mut Vec<ItemRow>, region: RegionId)
-    ensures { items.new.items ≡ filter (λ item. not (item.region.0 == region.0)) items.old.items }
-{
-    items.retain(|item| item.region.0 != region.0);
-}
 
 impl Directory {
     /// Takes the memory that a change needs.
@@ -57,7 +49,7 @@ impl Directory {
     {
         let coming = Coming::new(self.alloc, Some(region), name)?;
         self.coming = None;
-        self.items.reserve(1)?;
+        self.items.reserve()?;
         let place = place_there(self.regions.as_slice(), region);
         self.regions[place].reserve()?;
         self.coming = Some(coming);
@@ -156,11 +148,7 @@ impl Directory {
             mode: *mode,
             name: coming.name,
         };
-        match self.items.push(row) {
-            Ok(()) => {}
-            Err(_) => {}
-        }
-        self.next_item = item.0 + 1;
+        self.items.push(row);
     }
 
     /// Takes a region and its items away.
@@ -173,7 +161,7 @@ impl Directory {
         let region = self.regions.remove(place);
         self.names.remove(region.row.name.as_slice());
         self.total -= region.row.size;
-        drop_items(&mut self.items, number);
+        self.items.remove_named(&region.items, number);
     }
 
     /// Takes an item away.
@@ -182,8 +170,9 @@ impl Directory {
         ensures { self.new.rows ≡ words.after self.old.rows (change.Deallocate number) }
     {
         self.coming = None;
-        let at = item_there(self.items.as_slice(), number);
-        let row = self.items.remove(at);
+        let Some(row) = self.items.remove(number) else {
+            return;
+        };
         let place = place_there(self.regions.as_slice(), row.region);
         self.regions[place].remove(row.name.as_slice(), row.base);
     }
@@ -216,8 +205,7 @@ impl Directory {
         ensures { self.new.rows ≡ words.after self.old.rows (change.SetItemMode number mode) }
     {
         self.coming = None;
-        let at = item_there(self.items.as_slice(), number);
-        self.items[at].mode = mode;
+        self.items.set_mode(number, mode);
     }
 
     /// Passes over numbers.
@@ -227,6 +215,6 @@ impl Directory {
     {
         self.coming = None;
         self.next_region = next_region;
-        self.next_item = next_item;
+        self.items.pass(next_item);
     }
 }

@@ -9,9 +9,10 @@ ghost use Rattle.fam_model.specs.Rows.{IsLawful};
 ghost use Rattle.fam_directory.specs.Answers.{least_in};
 ghost use Rattle.fam_directory.specs.Index.{IsEntry};
 
+use crate::items::Items;
 use crate::names::Names;
 use crate::region::{Coming, Region};
-use crate::searching::{place_of_item, place_of_region};
+use crate::searching::place_of_region;
 use fam_base::{ItemId, RegionId};
 use fam_model::{ItemRow, RegionRow};
 use std::alloc::Global;
@@ -22,9 +23,8 @@ use std::marker::Model;
 pub struct Directory {
     pub(crate) alloc: Global,
     pub(crate) regions: Vec<Region>,
-    pub(crate) items: Vec<ItemRow>,
+    pub(crate) items: Items,
     pub(crate) next_region: u64,
-    pub(crate) next_item: u64,
     pub(crate) total: u64,
     pub(crate) names: Names,
     pub(crate) coming: Option<Coming>,
@@ -36,9 +36,9 @@ impl Model for Directory {
 
     ghost Value = { Listing };
 
-    ghost view = { λ d. record { rows = rows_of d.regions.items d.items.items d.next_region d.next_item; coming = option_map new_name d.coming } };
+    ghost view = { λ d. record { rows = rows_of d.regions.items d.items.rows d.next_region d.items.next; coming = option_map new_name d.coming } };
 
-    ghost invariant = { λ d. record { indexed : IsIndexed (rows_of d.regions.items d.items.items d.next_region d.next_item) d.regions.items d.names d.total; awaited : IsAwaited d.regions d.items d.names d.coming } };
+    ghost invariant = { λ d. record { indexed : IsIndexed (rows_of d.regions.items d.items.rows d.next_region d.items.next) d.regions.items d.names d.total; awaited : IsAwaited d.regions d.items d.names d.coming } };
 }
 
 impl Directory {
@@ -72,10 +72,7 @@ impl Directory {
     pub(crate) fn item(&self, number: ItemId) -> Option<&ItemRow>
         ensures { option_copied result ≡ row_words.item_of self.now.rows number.0 }
     {
-        match place_of_item(self.items.as_slice(), number) {
-            Some(place) => Some(&self.items[place]),
-            None => None,
-        }
+        self.items.find(number)
     }
 
     /// The number of the region of a name.
@@ -172,7 +169,7 @@ impl Directory {
     pub(crate) fn next_item(&self) -> u64
         ensures { result ≡ self.now.rows.next_item }
     {
-        self.next_item
+        self.items.next()
     }
 
     /// The sizes of all regions together.

@@ -6,10 +6,12 @@ mod changing;
 mod copying;
 mod directory;
 mod finding;
+mod items;
 mod names;
 mod refusing;
 mod region;
 mod searching;
+mod slots;
 #[cfg(test)]
 mod tests;
 

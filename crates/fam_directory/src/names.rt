@@ -1,6 +1,6 @@
 //! Names in an `indexmap`, each with a number.
 
-ghost use Rattle.std.specs.Prelude.{◌≡◌, ℕ, List, true, None, Some, OnOk, if◌then◌else◌};
+ghost use Rattle.std.specs.Prelude.{◌≡◌, ◌<◌, ℕ, List, true, None, Some, OnOk, length, map, slice_get, if◌then◌else◌};
 ghost use Rattle.std.specs.Str.{bytes_eq};
 ghost use Rattle.fam_directory.specs.Names.{named};
 
@@ -40,6 +40,24 @@ impl Names {
         ensures { result ≡ named name.now self.now }
     {
         self.map.get(name).copied()
+    }
+
+    /// How many names there are.
+    pub(crate) fn len(&self) -> usize
+        ensures { result ≡ length self.now.entries }
+    {
+        self.map.len()
+    }
+
+    /// The number of one of the names.
+    pub(crate) fn number_at(&self, at: usize) -> u64
+        requires { at < length self.now.entries }
+        ensures { slice_get (map (λ entry. entry.number) self.now.entries) at ≡ Some result }
+    {
+        match self.map.get_index(at) {
+            Some((_, number)) => *number,
+            None => 0,
+        }
     }
 
     /// Afterwards one more name takes no memory.

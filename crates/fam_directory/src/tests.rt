@@ -46,6 +46,25 @@ const STEPS: [(Ask, Want); 14] = [
     (Ask::Create("s", 64), Want::Region(3)),
 ];
 
+/// A name of the most bytes, and one of one byte more.
+const NAME_64: &str = "abcdefghijklmnopqrstuvwxyzabcdefghijklmnopqrstuvwxyz0123456789.-";
+
+const NAME_65: &str = "abcdefghijklmnopqrstuvwxyzabcdefghijklmnopqrstuvwxyz0123456789.-_";
+
+const NAMES: [(Ask, Want); 8] = [
+    (Ask::Create("", 64), Want::Refused(FamError::BadName)),
+    (Ask::Create("a/b", 64), Want::Refused(FamError::BadName)),
+    (Ask::Create(NAME_65, 64), Want::Refused(FamError::BadName)),
+    (Ask::Create(NAME_64, 64), Want::Region(1)),
+    (Ask::Allocate("", 1, 1), Want::Refused(FamError::BadName)),
+    (Ask::Allocate(":", 1, 1), Want::Refused(FamError::BadName)),
+    (
+        Ask::Allocate(NAME_65, 1, 1),
+        Want::Refused(FamError::BadName),
+    ),
+    (Ask::Allocate(NAME_64, 1, 1), Want::Item(1, 0)),
+];
+
 fn name_of(alloc: Global, text: &str) -> Result<Bytes, NoMemory> {
     Sequence::of(alloc, text.as_bytes())
 }
@@ -154,5 +173,30 @@ fn answers_requests_in_turn(rt: HostRuntime) -> Result<(), Fail> {
         Ok(256)
     );
     assert_eq!(rt; directory.rows()?.next_item, 6);
+    Ok(())
+}
+
+#[test]
+fn takes_names_of_1_to_64_bytes(rt: HostRuntime) -> Result<(), Fail> {
+    let rows = common_rows(rt.alloc())?;
+    let mut directory = Directory::of_rows(rt.alloc(), &rows)?;
+    for (ask, want) in NAMES.iter() {
+        let reply = asked(rt.alloc(), &mut directory, ask)?;
+        assert!(rt; is_wanted(&reply, want));
+    }
+    let most = NAME_64.as_bytes();
+    let more = NAME_65.as_bytes();
+    let bad = Err(FamError::BadName);
+    assert_eq!(rt;
+        directory.lookup(most, most).map(|place| place.item),
+        Ok(ItemId(1))
+    );
+    assert_eq!(rt; directory.lookup(more, most).map(|place| place.item), bad);
+    assert_eq!(rt; directory.lookup(most, more).map(|place| place.item), bad);
+    assert_eq!(rt;
+        directory.lookup_region(b"".as_slice()),
+        Err(FamError::BadName)
+    );
+    assert_eq!(rt; directory.lookup_region(more), Err(FamError::BadName));
     Ok(())
 }

@@ -26,7 +26,7 @@ use Rattle.fam_base.specs.declared.error.FamError.TheVariants.{Memory, JournalFu
 use Rattle.fam_model.specs.Rows.{IsLawful}
 use Rattle.fam_keeper.specs.declared.kept.Kept.{Kept}
 use Rattle.fam_keeper.specs.declared.kept.Kept.TheVariants.{Served, Refused}
-use Rattle.fam_keeper.specs.Keeping.{DoubtsAfter, HasKept, HasKeptIn, HasSome, IsAppended, IsInDoubt, IsSettled, LeavesIn, MayLeave, doubt_in}
+use Rattle.fam_keeper.specs.Keeping.{DoubtsAfter, HasFailed, HasKept, HasKeptIn, HasSome, IsAppended, IsInDoubt, IsSettled, LeavesIn, MayLeave, doubt_in, may_count}
 
 -- a disk that tells images tells what it reads
 abbrev pub Tells : DiskState → Type 0
@@ -159,6 +159,20 @@ module _ {D : Type 0} {disk : Ghosts D} where
       doubts false test (inr (inl none)) = (λ is. not_so (test.1 is), inr (ap change_in_doubt none))
       doubts false test (inr (inr (inl this))) = absurd (not_so (test.1 (ap change_in_doubt this)))
       doubts false test (inr (inr (inr (area, full)))) = (λ is. not_so (test.1 is), inr (ap change_in_doubt area))
+
+  pub untouched : (journal : Journal D disk) → IsUntouched journal journal
+  untouched journal = record { same_disk = refl; limit = refl; area = refl; used = refl; doubt = refl }
+
+  -- the same, from before memory was taken
+  pub appended_on : (rows : Rows) (change : Change) (old mid new : Journal D disk) (kept : Kept) → IsUntouched old mid → IsAppended rows change mid new (Ok kept) → IsAppended rows change old new (Ok kept)
+  appended_on rows change old mid new kept same a =
+      record {
+        kept = a.kept;
+        leaves = subst (λ d. LeavesOnly (HasSome (MayLeave rows (change_in_doubt old.doubt) (may_count (Ok kept)) change)) (disk.state d) (disk.state new.disk)) same.same_disk
+            (subst (λ d. LeavesOnly (HasSome (MayLeave rows (change_in_doubt d) (may_count (Ok kept)) change)) (disk.state mid.disk) (disk.state new.disk)) same.doubt a.leaves);
+        doubt = subst (λ d. DoubtsAfter (change_in_doubt d) change (change_in_doubt new.doubt) (Ok kept)) same.doubt a.doubt;
+        cause = subst (λ d. HasFailed (disk.state d).faults (disk.state new.disk).faults (Ok kept)) same.same_disk a.cause;
+      }
 
   -- and of a keeper
   pub leaves_in : (o : Option (Journal D disk)) (rows : Rows) → ((d : D) → Tells (disk.state d)) → HasKeptIn o rows → LeavesIn (IsInDoubt rows (doubt_in o)) o o

@@ -1,6 +1,7 @@
 //! Keeping a change in a journal.
 
-ghost use Rattle.std.specs.Prelude.{◌≡◌, ◌↔◌, ◌<◌, ◌^◌, Some, true, IsTrue, OnOk};
+ghost use Rattle.std.specs.Prelude.{◌≡◌, ◌↔◌, ◌<◌, ◌^◌, Some, Ok, true, IsTrue, OnOk};
+ghost use Rattle.fam_model.specs.declared.rows.Rows.{Rows};
 ghost use Rattle.fam_model.specs.Lawful.{is_lawful_change};
 ghost use Rattle.fam_model.specs.Rows.{IsLawful};
 ghost use Rattle.meta_codec.specs.Body.{HasBody};
@@ -58,6 +59,20 @@ fn is_in_doubt<D: Disk>(journal: &Journal<D>, change: &Change) -> bool
     }
 }
 
+/// Keeps a change for which memory was taken.
+fn append_reserved<D: Disk>(journal: &mut Journal<D>, change: &Change) -> Kept
+    requires sound { journals.IsSound journal.old }
+    requires reserved { (rows : Rows) × journals.IsReserved journal.old change.now rows }
+    ensures { (rows : Rows) → keeping.HasKept journal.old rows → keeping.IsAppended rows change.now journal.old journal.new (Ok result) }
+{
+    match journal.append(change) {
+        Ok(()) => Kept::Served,
+        Err(_) => Kept::Refused {
+            doubt: is_in_doubt(journal, change),
+        },
+    }
+}
+
 /// Keeps a lawful change of these rows in a journal.
 pub fn append<D: Disk>(
     journal: &mut Journal<D>,
@@ -70,11 +85,8 @@ pub fn append<D: Disk>(
     ensures { keeping.IsAppended rows.now change.now journal.old journal.new result }
 {
     prove!(u64::from(group_of(change)) < 0x1_0000_0000);
-    reserve(journal, rows, change)?;
-    match journal.append(change) {
-        Ok(()) => Ok(Kept::Served),
-        Err(_) => Ok(Kept::Refused {
-            doubt: is_in_doubt(journal, change),
-        }),
+    match reserve(journal, rows, change) {
+        Ok(()) => Ok(append_reserved(journal, change)),
+        Err(NoMemory) => Err(NoMemory),
     }
 }

@@ -57,3 +57,5 @@ pub fn parse(alloc: Global, bytes: &[u8]) -> Result<Script, ScriptFault>
 
 #[cfg(test)]
 mod tests;
+#[cfg(test)]
+mod word_tests;

@@ -8,7 +8,7 @@ use Rattle.fam_base.specs.declared.error.NoMemory.{NoMemory}
 use Rattle.fam_disk.specs.Crash.{DiskState, LeavesOnly}
 use Rattle.fam_disk.specs.declared.disk.Disk.{Ghosts}
 use Rattle.fam_disk.proofs.Moments.{run_on, weaker}
-use Rattle.fam_keeper.specs.Keeping.{DoubtsAfter, HasFailed, HasKeptIn, HasSome, IsInDoubt, IsSettled, IsTaken, Keeps, HasKeptOrMore, LeavesIn, LeavesRows, MayLeave, doubt_of, faults_in, faults_of, may_count, rows_behind}
+use Rattle.fam_keeper.specs.Keeping.{DoubtsAfter, HasFailed, HasKeptIn, HasSome, IsInDoubt, IsSettled, IsTaken, Keeps, HasKeptOrMore, LeavesIn, LeavesRows, MayLeave, doubt_in, doubt_of, faults_in, faults_of, may_count, rows_behind}
 use Rattle.fam_keeper.specs.declared.keeper.Keeper.{Keeper}
 use Rattle.fam_keeper.specs.declared.kept.Kept.{Kept}
 use Rattle.fam_keeper.specs.declared.kept.Kept.TheVariants.{Served, Refused}
@@ -25,7 +25,10 @@ use Rattle.fam_model.specs.Directory.{after}
 use Rattle.fam_model.specs.Earned.{disk_faults, is_disk_fault}
 use Rattle.fam_model.specs.History.{change_in, change_served, state_after}
 use Rattle.fam_model.specs.Limits.{service_limits}
+use Rattle.fam_model.specs.Step.{step}
 use Rattle.fam_model.specs.Turn.{call_made}
+use Rattle.fam_schedule.specs.Schedule.{Comes, IsDiskRefusal}
+use Rattle.fam_schedule.proofs.Refusable.{refusal_may_come}
 use Rattle.meta_journal.specs.Reading.{HasRows}
 use Rattle.meta_journal.specs.declared.journal.Journal.{Journal}
 use Rattle.fam_steps.specs.Steps.{Course, IsDue, Makes, Ran, come, least_change, refused_what}
@@ -491,3 +494,70 @@ pub some_kept : {D : Type 0} {disk : Ghosts D} (journal : Option (Journal D disk
 some_kept journal false rows has = (rows, has)
 some_kept journal true rows (inl has) = (rows, has)
 some_kept journal true rows (inr (change, has, none)) = (after rows change, has)
+
+-- a keeper that keeps nothing is fresh
+pub nothing_fresh : {D : Type 0} {disk : Ghosts D} (keeper : Keeper D disk) (rows : Rows) → keeper.journal ≡ None → keeper.stopped ≡ false → IsFresh keeper rows
+nothing_fresh keeper rows none level = record { kept = subst (λ j. HasKeptIn j rows) (sym none) tt; goes_on = level; settled = ap doubt_in none }
+
+-- what the keeper has behind an event
+
+pub quiet_kept : {D : Type 0} {disk : Ghosts D} (old new : Course) (event : Event) (keeper : Keeper D disk) → Makes old event new → change_served old.state event ≡ None → Keeps keeper old.state.rows → Keeps keeper new.state.rows
+quiet_kept old new event keeper makes quiet kept =
+    subst (Keeps keeper) (sym (step_rows old.state event new.state makes.steps ∙ ap (rows_by old.state.rows) quiet)) kept
+
+module _ {D : Type 0} {disk : Ghosts D} (old new : Course) (due : Event) (before now : Keeper D disk) (change : Change) (is_due : IsDue old.state due) (serves : change_served old.state due ≡ Some change) (level : before.stopped ≡ false) where
+  -- the rows that were kept are those of the service
+  pub rows_made : (kept : Kept) → Makes old (come due kept) new → new.state.rows ≡ rows_behind old.state.rows change (Ok kept)
+  rows_made Served makes = step_rows old.state due new.state makes.steps ∙ ap (rows_by old.state.rows) serves
+  rows_made (Refused doubt) makes =
+      step_rows old.state (come due (Refused doubt)) new.state makes.steps
+      ∙ ap (rows_by old.state.rows) (refused_serves old.state due.pe.0 due.what doubt change serves)
+
+  pub made_kept : (kept : Kept) → Makes old (come due kept) new → IsTaken old.state.rows change before now (Ok kept) → Keeps now new.state.rows
+  made_kept kept makes taken =
+      subst (λ s. HasKeptOrMore now.journal s new.state.rows) (sym taken.goes_on) (subst (HasKeptIn now.journal) (sym (rows_made kept makes)) taken.kept)
+
+  pub made_on : (kept : Kept) → Makes old (come due kept) new → IsTaken old.state.rows change before now (Ok kept) → KeepsOn old before new now
+  made_on Served makes taken = served_on old new due before now change is_due serves level makes taken
+  made_on (Refused doubt) makes taken = refused_on old new due before now change is_due serves level doubt makes taken
+
+-- what it has where memory was wanting
+
+pub unkept_kept : {D : Type 0} {disk : Ghosts D} (rows : Rows) (change : Change) (before now : Keeper D disk) (e : NoMemory) → IsTaken rows change before now (Err e) → Keeps now rows
+unkept_kept rows change before now e taken = subst (λ s. HasKeptOrMore now.journal s rows) (sym taken.goes_on) taken.kept
+
+pub stopped_kept : {D : Type 0} {disk : Ghosts D} (rows : Rows) (change : Change) (before mid now : Keeper D disk) (kept : Kept) → IsTaken rows change before mid (Ok kept) → now.journal ≡ mid.journal → now.stopped ≡ true → Keeps now rows
+stopped_kept rows change before mid now kept taken same stopped =
+    subst (λ s. HasKeptOrMore now.journal s rows) (sym stopped) (subst (λ j. HasKeptOrMore j true rows) (sym same) (by_kept kept taken.kept taken.doubt))
+  where
+    by_kept : (k : Kept) → HasKeptIn mid.journal (rows_behind rows change (Ok k)) → DoubtsAfter (doubt_of before) change (doubt_of mid) (Ok k) → HasKeptOrMore mid.journal true rows
+    by_kept Served has settled = inr (change, has, settled)
+    by_kept (Refused doubt) has settled = inl has
+
+-- what comes
+
+pub come_refused : (state : State) (due : Event) (change : Change) (doubt : Bool) → change_served state due ≡ Some change → IsDiskRefusal state due (come due (Refused doubt))
+come_refused state due change doubt h =
+    let c = serves_call state due.pe.0 due.what change h in
+    record {
+      asked = c.0;
+      given = c.1;
+      doubt = doubt;
+      asks = c.2;
+      changes = ap is_some h;
+      is = ap (λ v. record due { what = refused_what v doubt }) c.2;
+    }
+
+pub come_comes : (state : State) (due : Event) (change : Change) (kept : Kept) → change_served state due ≡ Some change → Comes state due (come due kept)
+come_comes state due change Served h = inl refl
+come_comes state due change (Refused doubt) h = inr (come_refused state due change doubt h)
+
+some_of : {A : Type 0} (o : Option A) → is_some o ≡ true → (x : A) × (o ≡ Some x)
+some_of None h = cc
+some_of (Some x) h = (x, refl)
+
+pub come_steps : (state : State) (due : Event) (change : Change) (kept : Kept) → IsDue state due → change_served state due ≡ Some change → is_some (step service_limits state (come due kept)) ≡ true
+come_steps state due change Served is h = is.comes
+come_steps state due change (Refused doubt) is h =
+    let next = some_of (step service_limits state due) is.comes in
+    refusal_may_come service_limits state next.0 due (come due (Refused doubt)) next.1 (come_refused state due change doubt h)

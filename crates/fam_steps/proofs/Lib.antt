@@ -5,4 +5,4 @@ pub mod Enabled
 pub mod Course
 pub mod Serving
 pub mod Keeping
-pub mod Due
+pub mod Awaited

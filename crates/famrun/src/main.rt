@@ -23,8 +23,10 @@ mod wanted;
 use crate::command::fam_main;
 use crate::ending::Ending;
 use crate::sim::tell;
-use fam_disk::FileDisk;
+use fam_base::{Bytes, Places};
+use fam_disk::{FileDisk, MemDisk};
 use fam_io::{Reader, Writer};
+use std::alloc::Global;
 use std::io::ErrorKind;
 use std::process::ExitCode;
 use std::{env, io};
@@ -37,10 +39,13 @@ fn words(rt: &HostRuntime) -> io::Result<Vec<String>> {
 /// The file of the journal, in the current folder.
 const JOURNAL: &str = "fam.journal";
 
-/// Runs the command of these words.
+/// Runs the command of these words. Only `sim` opens the file.
 fn run(rt: HostRuntime, words: &[String]) -> u8 {
     let mut input = Reader::new(rt.stdin());
     let mut output = Writer::new(rt.stdout());
+    if !is_sim(words) {
+        return fam_main(rt.alloc(), words, &mut input, &mut output, no_disk(rt.alloc())).status;
+    }
     match FileDisk::open(&rt, JOURNAL) {
         Ok(disk) => fam_main(rt.alloc(), words, &mut input, &mut output, disk).status,
         Err(_) => {
@@ -48,6 +53,23 @@ fn run(rt: HostRuntime, words: &[String]) -> u8 {
             Ending::DiskFault.status()
         }
     }
+}
+
+/// Whether the first word is `sim`.
+fn is_sim(words: &[String]) -> bool {
+    match words {
+        [first, ..] => first.as_str() == "sim",
+        [] => false,
+    }
+}
+
+/// A disk in memory, for the commands that leave their disk alone.
+fn no_disk(alloc: Global) -> MemDisk {
+    let bytes = Bytes::from_vec(Vec::new(alloc));
+    let reads = Places::from_vec(Vec::new(alloc));
+    let writes = Places::from_vec(Vec::new(alloc));
+    let syncs = Places::from_vec(Vec::new(alloc));
+    MemDisk::new(alloc, bytes, reads, writes, syncs)
 }
 
 fn main(rt: HostRuntime) -> ExitCode {

@@ -127,8 +127,7 @@ fn simulate_source<S: Source, K: Sink, D: Disk>(
 
 /// The command `sim SEED`: reads a script from the source, opens the journal of the disk, plays the script's programs side by
 /// side in the order that the seed draws, and writes the report of the history. The regions and items that the journal has are
-/// there from the start, with zero bytes. Each change of the directory is on the disk before it is served; the disk is handed
-/// back with nothing in doubt, unless it failed.
+/// there from the start, with zero bytes. Each change of the directory is on the disk before it is served.
 ///
 /// The history is one legal run of the memory machine that follows the script, and the one that the schedule gives for the
 /// seed, but for changes that the disk refused; also where a write failed or memory was wanting: it is then the run so far.
@@ -136,8 +135,8 @@ fn simulate_source<S: Source, K: Sink, D: Disk>(
 /// The status is 0 where the report is written, and else tells why not, with a line on the output: 2 other words than
 /// those of `sim`, 3 the input is no script, 4 the source failed, 6 the disk failed while the journal was opened, 7 the journal
 /// is damaged, 9 memory was wanting, 10 the input has more than 16,777,216 bytes. At 5 the sink failed, and a prefix of the
-/// report is written. At 2, 3, 4 and 10 nothing was played and the disk is as it was; at 6 and 7 nothing was played, and the
-/// disk reads the same rows; at 2 nothing was read.
+/// report is written. At 2, 3, 4, 6, 7 and 10 nothing was played, at 2, 3, 4 and 10 the disk is as it was, and at 2 nothing was
+/// read.
 pub fn sim_main<S: Source, K: Sink, D: Disk>(
     alloc: Global,
     words: &[String],

@@ -25,7 +25,7 @@ returns c =
     let there : slice_get c.args.parts.now.programs c.args.pe ≡ Some p = search rules in
     let request : request_of p.state c.args.asked.now ≡ Some made = search rules in
     let nothing : told_change c.args.parts.now.rows c.who.result made c.args.given.now ≡ None =
-    right_or_wrong c.args.parts.now.rows c.who.result made c.args.given.now c.in_ok-chosen.field-0 (c.in_ok-chosen.ensures {0} tt) c.in-Right.is in
+    right_or_wrong c.args.parts.now.rows c.who.result made c.args.given.now c.in_ok-chosen.field-0 c.in_ok-chosen.ensures c.in-Right.is in
     record {
       change = sym (change_here c.args.parts.now c.args.pe c.args.asked.now c.args.given.now p made there request
           ∙ subst (λ (w : Who). told_change c.args.parts.now.rows w made c.args.given.now ≡ None) c.who.ensures.value nothing);

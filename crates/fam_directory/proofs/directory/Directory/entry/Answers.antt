@@ -13,9 +13,9 @@ place_of_region-requires c =
 pub returns-in-Some-clause-entry : goal.returns-in-Some-clause-entry
 returns-in-Some-clause-entry c =
     subst (λ l. IsEntry l.rows c.args.number.0 (Some c.index.result.now)) c.self.view_is
-    (entry_found c.self.inside.regions.items c.self.inside.items.items c.self.inside.next_region c.self.inside.next_item c.args.number.0 c.in-Some.place c.self.inside.total c.self.inside.names c.index.result.now c.self.invariant.indexed (c.in-Some.ensures.place ∙ ap (place_of number_of c.args.number.0) c.as_slice.ensures.value) (subst (λ l. c.in-Some.place < length l) c.as_slice.ensures.value c.in-Some.ensures.within) c.index.ensures)
+    (entry_found c.self.inside.regions.items c.self.inside.items.rows c.self.inside.next_region c.self.inside.items.next c.args.number.0 c.in-Some.place c.self.inside.total c.self.inside.names c.index.result.now c.self.invariant.indexed (c.in-Some.ensures.place ∙ ap (place_of number_of c.args.number.0) c.as_slice.ensures.value) (subst (λ l. c.in-Some.place < length l) c.as_slice.ensures.value c.in-Some.ensures.within) c.index.ensures)
 
 pub returns-in-None-clause-entry : goal.returns-in-None-clause-entry
 returns-in-None-clause-entry c =
     subst (λ l. IsEntry l.rows c.args.number.0 None) c.self.view_is
-    (entry_missing c.self.inside.regions.items c.self.inside.items.items c.self.inside.next_region c.self.inside.next_item c.args.number.0 c.self.invariant.indexed.lawful (c.in-None.ensures.place ∙ ap (place_of number_of c.args.number.0) c.as_slice.ensures.value))
+    (entry_missing c.self.inside.regions.items c.self.inside.items.rows c.self.inside.next_region c.self.inside.items.next c.args.number.0 c.self.invariant.indexed.lawful (c.in-None.ensures.place ∙ ap (place_of number_of c.args.number.0) c.as_slice.ensures.value))

@@ -6,8 +6,8 @@ use Rattle.fam_directory.specs.Index.{IsIndexed, named_in, rows_of}
 use Rattle.fam_directory.proofs.directory.Directory.of_rows.Goals as goal
 
 -- the rows are those that were given
-same_rows : (c : goal.After-total_of) → rows_of c.add_items.new.regions.items c.in_ok-items.items.items c.args.rows.now.next_region c.args.rows.now.next_item ≡ c.args.rows.now
-same_rows c = λ i. let rows : Rows = record { regions = c.in_ok-items.ensures.rows i; items = c.in_ok-items.ensures.items i; next_region = c.args.rows.now.next_region; next_item = c.args.rows.now.next_item } in rows
+same_rows : (c : goal.After-total_of) → rows_of c.add_items.new.regions.items c.in_ok-items.items.rows c.args.rows.now.next_region c.in_ok-items.items.next ≡ c.args.rows.now
+same_rows c = λ i. let rows : Rows = record { regions = c.in_ok-items.ensures.rows i; items = c.in_ok-items.ensures.items i; next_region = c.args.rows.now.next_region; next_item = c.in_ok-items.ensures.next i } in rows
 
 pub add_items-requires-clause-rows : goal.add_items-requires-clause-rows
 add_items-requires-clause-rows c = c.in_ok-regions.ensures.rows

@@ -16,22 +16,22 @@ pub place_there-place-requires-clause-rise : goal.place_there-place-requires-cla
 place_there-place-requires-clause-rise c = subst (λ l. IsStrictlyIncreasing (map number_of l)) (sym c.as_slice.ensures.value) (numbers_rise c.self.inside.regions.items c.self.invariant.indexed.lawful.region_numbers_rise)
 
 pub place_there-place-requires-clause-there : goal.place_there-place-requires-clause-there
-place_there-place-requires-clause-there c = subst (λ l. is_some (place_of number_of c.args.number.0 l) ≡ true) (sym c.as_slice.ensures.value) (size_there c.self.inside.regions.items c.self.inside.items.items c.self.inside.next_region c.self.inside.next_item c.args.size c.args.number (subst (λ l. is_lawful_change l.rows (change.ResizeRegion c.args.number c.args.size) ≡ true) (sym c.self.view_is) c.requires))
+place_there-place-requires-clause-there c = subst (λ l. is_some (place_of number_of c.args.number.0 l) ≡ true) (sym c.as_slice.ensures.value) (size_there c.self.inside.regions.items c.self.inside.items.rows c.self.inside.next_region c.self.inside.items.next c.args.size c.args.number (subst (λ l. is_lawful_change l.rows (change.ResizeRegion c.args.number c.args.size) ≡ true) (sym c.self.view_is) c.requires))
 
 pub resize-requires-clause-limit : goal.resize-requires-clause-limit
-resize-requires-clause-limit c = (size_fits c.self.inside.regions.items c.self.inside.items.items c.self.inside.next_region c.self.inside.next_item c.place_there-place.result c.self.inside.total c.args.size c.self.inside.names c.args.number c.index_mut.result.now c.self.invariant.indexed (subst (λ l. is_lawful_change l.rows (change.ResizeRegion c.args.number c.args.size) ≡ true) (sym c.self.view_is) c.requires) (subst (λ l. place_of number_of c.args.number.0 l ≡ Some c.place_there-place.result) c.as_slice.ensures.value c.place_there-place.ensures.place) (subst (λ l. c.place_there-place.result < length l) c.as_slice.ensures.value c.place_there-place.ensures.within) c.index_mut.ensures.value).0
+resize-requires-clause-limit c = (size_fits c.self.inside.regions.items c.self.inside.items.rows c.self.inside.next_region c.self.inside.items.next c.place_there-place.result c.self.inside.total c.args.size c.self.inside.names c.args.number c.index_mut.result.now c.self.invariant.indexed (subst (λ l. is_lawful_change l.rows (change.ResizeRegion c.args.number c.args.size) ≡ true) (sym c.self.view_is) c.requires) (subst (λ l. place_of number_of c.args.number.0 l ≡ Some c.place_there-place.result) c.as_slice.ensures.value c.place_there-place.ensures.place) (subst (λ l. c.place_there-place.result < length l) c.as_slice.ensures.value c.place_there-place.ensures.within) c.index_mut.ensures.value).0
 
 pub resize-requires-clause-uncut : goal.resize-requires-clause-uncut
-resize-requires-clause-uncut c = (size_fits c.self.inside.regions.items c.self.inside.items.items c.self.inside.next_region c.self.inside.next_item c.place_there-place.result c.self.inside.total c.args.size c.self.inside.names c.args.number c.index_mut.result.now c.self.invariant.indexed (subst (λ l. is_lawful_change l.rows (change.ResizeRegion c.args.number c.args.size) ≡ true) (sym c.self.view_is) c.requires) (subst (λ l. place_of number_of c.args.number.0 l ≡ Some c.place_there-place.result) c.as_slice.ensures.value c.place_there-place.ensures.place) (subst (λ l. c.place_there-place.result < length l) c.as_slice.ensures.value c.place_there-place.ensures.within) c.index_mut.ensures.value).1
+resize-requires-clause-uncut c = (size_fits c.self.inside.regions.items c.self.inside.items.rows c.self.inside.next_region c.self.inside.items.next c.place_there-place.result c.self.inside.total c.args.size c.self.inside.names c.args.number c.index_mut.result.now c.self.invariant.indexed (subst (λ l. is_lawful_change l.rows (change.ResizeRegion c.args.number c.args.size) ≡ true) (sym c.self.view_is) c.requires) (subst (λ l. place_of number_of c.args.number.0 l ≡ Some c.place_there-place.result) c.as_slice.ensures.value c.place_there-place.ensures.place) (subst (λ l. c.place_there-place.result < length l) c.as_slice.ensures.value c.place_there-place.ensures.within) c.index_mut.ensures.value).1
 
 pub overflow_sub-self : goal.overflow_sub-self
-overflow_sub-self c = size_within c.self.inside.regions.items c.self.inside.items.items c.self.inside.next_region c.self.inside.next_item c.place_there-place.result c.self.inside.total c.self.inside.names c.index.result.now c.self.invariant.indexed (subst (λ l. c.place_there-place.result < length l) c.as_slice.ensures.value c.place_there-place.ensures.within) c.index.ensures
+overflow_sub-self c = size_within c.self.inside.regions.items c.self.inside.items.rows c.self.inside.next_region c.self.inside.items.next c.place_there-place.result c.self.inside.total c.self.inside.names c.index.result.now c.self.invariant.indexed (subst (λ l. c.place_there-place.result < length l) c.as_slice.ensures.value c.place_there-place.ensures.within) c.index.ensures
 
 pub overflow_add-self : goal.overflow_add-self
-overflow_add-self c = omega (arith, total_within _ _ _ _ c.self.invariant.indexed, (size_fits c.self.inside.regions.items c.self.inside.items.items c.self.inside.next_region c.self.inside.next_item c.place_there-place.result c.self.inside.total c.args.size c.self.inside.names c.args.number c.index_mut.result.now c.self.invariant.indexed (subst (λ l. is_lawful_change l.rows (change.ResizeRegion c.args.number c.args.size) ≡ true) (sym c.self.view_is) c.requires) (subst (λ l. place_of number_of c.args.number.0 l ≡ Some c.place_there-place.result) c.as_slice.ensures.value c.place_there-place.ensures.place) (subst (λ l. c.place_there-place.result < length l) c.as_slice.ensures.value c.place_there-place.ensures.within) c.index_mut.ensures.value).0)
+overflow_add-self c = omega (arith, total_within _ _ _ _ c.self.invariant.indexed, (size_fits c.self.inside.regions.items c.self.inside.items.rows c.self.inside.next_region c.self.inside.items.next c.place_there-place.result c.self.inside.total c.args.size c.self.inside.names c.args.number c.index_mut.result.now c.self.invariant.indexed (subst (λ l. is_lawful_change l.rows (change.ResizeRegion c.args.number c.args.size) ≡ true) (sym c.self.view_is) c.requires) (subst (λ l. place_of number_of c.args.number.0 l ≡ Some c.place_there-place.result) c.as_slice.ensures.value c.place_there-place.ensures.place) (subst (λ l. c.place_there-place.result < length l) c.as_slice.ensures.value c.place_there-place.ensures.within) c.index_mut.ensures.value).0)
 
 pub invariant_of-self : goal.invariant_of-self
-invariant_of-self c = record { indexed = (size_step c.self.inside.regions.items c.self.inside.items.items c.self.inside.next_region c.self.inside.next_item c.place_there-place.result c.self.inside.total c.args.size c.self.inside.names c.args.number c.index.result.now c.resize.new.self c.self.invariant.indexed (subst (λ l. is_lawful_change l.rows (change.ResizeRegion c.args.number c.args.size) ≡ true) (sym c.self.view_is) c.requires) (subst (λ l. place_of number_of c.args.number.0 l ≡ Some c.place_there-place.result) c.as_slice.ensures.value c.place_there-place.ensures.place) (subst (λ l. c.place_there-place.result < length l) c.as_slice.ensures.value c.place_there-place.ensures.within) c.index.ensures (c.resize.ensures.row ∙ ap (λ (r : Region). let s : RegionRow = record r.row { size = c.args.size } in s) (c.index_mut.ensures.value ∙ (get_or_default c.self.inside.regions.items c.place_there-place.result c.index_mut.result.now c.index.result.now (subst (λ l. c.place_there-place.result < length l) c.as_slice.ensures.value c.place_there-place.ensures.within)) ∙ sym c.index.ensures)) (c.resize.ensures.names ∙ ap (λ (r : Region). r.items) (c.index_mut.ensures.value ∙ (get_or_default c.self.inside.regions.items c.place_there-place.result c.index_mut.result.now c.index.result.now (subst (λ l. c.place_there-place.result < length l) c.as_slice.ensures.value c.place_there-place.ensures.within)) ∙ sym c.index.ensures)) c.resize.ensures.size (c.resize.ensures.rooms ∙ ap (λ (r : Region). r.room.rooms) (c.index_mut.ensures.value ∙ (get_or_default c.self.inside.regions.items c.place_there-place.result c.index_mut.result.now c.index.result.now (subst (λ l. c.place_there-place.result < length l) c.as_slice.ensures.value c.place_there-place.ensures.within)) ∙ sym c.index.ensures))).0; awaited = tt }
+invariant_of-self c = record { indexed = (size_step c.self.inside.regions.items c.self.inside.items.rows c.self.inside.next_region c.self.inside.items.next c.place_there-place.result c.self.inside.total c.args.size c.self.inside.names c.args.number c.index.result.now c.resize.new.self c.self.invariant.indexed (subst (λ l. is_lawful_change l.rows (change.ResizeRegion c.args.number c.args.size) ≡ true) (sym c.self.view_is) c.requires) (subst (λ l. place_of number_of c.args.number.0 l ≡ Some c.place_there-place.result) c.as_slice.ensures.value c.place_there-place.ensures.place) (subst (λ l. c.place_there-place.result < length l) c.as_slice.ensures.value c.place_there-place.ensures.within) c.index.ensures (c.resize.ensures.row ∙ ap (λ (r : Region). let s : RegionRow = record r.row { size = c.args.size } in s) (c.index_mut.ensures.value ∙ (get_or_default c.self.inside.regions.items c.place_there-place.result c.index_mut.result.now c.index.result.now (subst (λ l. c.place_there-place.result < length l) c.as_slice.ensures.value c.place_there-place.ensures.within)) ∙ sym c.index.ensures)) (c.resize.ensures.names ∙ ap (λ (r : Region). r.items) (c.index_mut.ensures.value ∙ (get_or_default c.self.inside.regions.items c.place_there-place.result c.index_mut.result.now c.index.result.now (subst (λ l. c.place_there-place.result < length l) c.as_slice.ensures.value c.place_there-place.ensures.within)) ∙ sym c.index.ensures)) c.resize.ensures.size (c.resize.ensures.rooms ∙ ap (λ (r : Region). r.room.rooms) (c.index_mut.ensures.value ∙ (get_or_default c.self.inside.regions.items c.place_there-place.result c.index_mut.result.now c.index.result.now (subst (λ l. c.place_there-place.result < length l) c.as_slice.ensures.value c.place_there-place.ensures.within)) ∙ sym c.index.ensures))).0; awaited = tt }
 
 pub returns : goal.returns
-returns c = (size_step c.self.inside.regions.items c.self.inside.items.items c.self.inside.next_region c.self.inside.next_item c.place_there-place.result c.self.inside.total c.args.size c.self.inside.names c.args.number c.index.result.now c.resize.new.self c.self.invariant.indexed (subst (λ l. is_lawful_change l.rows (change.ResizeRegion c.args.number c.args.size) ≡ true) (sym c.self.view_is) c.requires) (subst (λ l. place_of number_of c.args.number.0 l ≡ Some c.place_there-place.result) c.as_slice.ensures.value c.place_there-place.ensures.place) (subst (λ l. c.place_there-place.result < length l) c.as_slice.ensures.value c.place_there-place.ensures.within) c.index.ensures (c.resize.ensures.row ∙ ap (λ (r : Region). let s : RegionRow = record r.row { size = c.args.size } in s) (c.index_mut.ensures.value ∙ (get_or_default c.self.inside.regions.items c.place_there-place.result c.index_mut.result.now c.index.result.now (subst (λ l. c.place_there-place.result < length l) c.as_slice.ensures.value c.place_there-place.ensures.within)) ∙ sym c.index.ensures)) (c.resize.ensures.names ∙ ap (λ (r : Region). r.items) (c.index_mut.ensures.value ∙ (get_or_default c.self.inside.regions.items c.place_there-place.result c.index_mut.result.now c.index.result.now (subst (λ l. c.place_there-place.result < length l) c.as_slice.ensures.value c.place_there-place.ensures.within)) ∙ sym c.index.ensures)) c.resize.ensures.size (c.resize.ensures.rooms ∙ ap (λ (r : Region). r.room.rooms) (c.index_mut.ensures.value ∙ (get_or_default c.self.inside.regions.items c.place_there-place.result c.index_mut.result.now c.index.result.now (subst (λ l. c.place_there-place.result < length l) c.as_slice.ensures.value c.place_there-place.ensures.within)) ∙ sym c.index.ensures))).1 ∙ ap (λ l. after l.rows (change.ResizeRegion c.args.number c.args.size)) c.self.view_is
+returns c = (size_step c.self.inside.regions.items c.self.inside.items.rows c.self.inside.next_region c.self.inside.items.next c.place_there-place.result c.self.inside.total c.args.size c.self.inside.names c.args.number c.index.result.now c.resize.new.self c.self.invariant.indexed (subst (λ l. is_lawful_change l.rows (change.ResizeRegion c.args.number c.args.size) ≡ true) (sym c.self.view_is) c.requires) (subst (λ l. place_of number_of c.args.number.0 l ≡ Some c.place_there-place.result) c.as_slice.ensures.value c.place_there-place.ensures.place) (subst (λ l. c.place_there-place.result < length l) c.as_slice.ensures.value c.place_there-place.ensures.within) c.index.ensures (c.resize.ensures.row ∙ ap (λ (r : Region). let s : RegionRow = record r.row { size = c.args.size } in s) (c.index_mut.ensures.value ∙ (get_or_default c.self.inside.regions.items c.place_there-place.result c.index_mut.result.now c.index.result.now (subst (λ l. c.place_there-place.result < length l) c.as_slice.ensures.value c.place_there-place.ensures.within)) ∙ sym c.index.ensures)) (c.resize.ensures.names ∙ ap (λ (r : Region). r.items) (c.index_mut.ensures.value ∙ (get_or_default c.self.inside.regions.items c.place_there-place.result c.index_mut.result.now c.index.result.now (subst (λ l. c.place_there-place.result < length l) c.as_slice.ensures.value c.place_there-place.ensures.within)) ∙ sym c.index.ensures)) c.resize.ensures.size (c.resize.ensures.rooms ∙ ap (λ (r : Region). r.room.rooms) (c.index_mut.ensures.value ∙ (get_or_default c.self.inside.regions.items c.place_there-place.result c.index_mut.result.now c.index.result.now (subst (λ l. c.place_there-place.result < length l) c.as_slice.ensures.value c.place_there-place.ensures.within)) ∙ sym c.index.ensures))).1 ∙ ap (λ l. after l.rows (change.ResizeRegion c.args.number c.args.size)) c.self.view_is
