@@ -1,6 +1,6 @@
 #!/usr/bin/env bash
 # Appends 2,000 changes to a journal in a file, and lets a bare program write the same bytes at the same places with the same
-# syncs: the ratio of the two times, by the clock, is to be below 1.2. Each has the least of five runs in turn.
+# syncs: the ratio of the two times, by the clock, is to be below 1.2. Each has the least of nine runs in turn.
 # Then it opens a journal of 60,000 records and one of half as many, where regions come and go: 50 times each, the least of
 # five runs. The ratio of the two times, of the processor, is to be below 2.3. Last, the same once with one region and an item
 # for each record: there each record is judged by a look at all items, so the time grows with the square. That is only told.
@@ -37,7 +37,7 @@ tell() {
 failed=0
 journal=999999999
 bare=999999999
-for _ in 1 2 3 4 5; do
+for _ in 1 2 3 4 5 6 7 8 9; do
     journal=$(lesser "$journal" "$(spent %3R ./journal_bench append "$changes")")
     bare=$(lesser "$bare" "$(spent %3R ./bare bench.journal)")
 done
