@@ -241,6 +241,20 @@ fn tells_of_damage_in_the_second_area(rt: HostRuntime) -> Result<(), Fail> {
     Ok(())
 }
 
+/// The image at a moment has these bytes, whatever the bytes in doubt are.
+fn same_image(
+    rt: &impl Abort,
+    alloc: Global,
+    disk: &MemDisk,
+    moment: u64,
+    bytes: &[u8],
+) -> Result<(), Fail> {
+    assert!(rt; moment <= disk.moment());
+    let image = disk.image(moment, &Bytes::of(alloc, &[0xa5; 64])?)?;
+    assert_eq!(rt; image.as_slice(), bytes);
+    Ok(())
+}
+
 /// Nothing is written on a journal of the second version: each image at each moment is what was there.
 #[test]
 fn writes_nothing_on_the_second_version(rt: HostRuntime) -> Result<(), Fail> {
@@ -248,8 +262,7 @@ fn writes_nothing_on_the_second_version(rt: HostRuntime) -> Result<(), Fail> {
     let disk = disk_with(alloc, &ONE_REGION, &[], &[])?;
     let disk = opens(&rt, alloc, disk, 50, 2)?;
     for moment in 0..=disk.moment() {
-        let image = disk.image(moment, &Bytes::of(alloc, &[0xa5; 64])?)?;
-        assert_eq!(rt; image.as_slice(), ONE_REGION.as_slice());
+        same_image(&rt, alloc, &disk, moment, &ONE_REGION)?;
     }
     Ok(())
 }
