@@ -5,4 +5,4 @@ use Rattle.meta_journal.specs.State.{IsSound, acknowledged}
 use Rattle.meta_journal.proofs.journal.crash_tests.play_script.Given as goal
 
 abbrev pub invariant-loop-place : goal.invariant-loop-place
-invariant-loop-place l = IsSound l.journal × (rows_of (acknowledged l.journal) ≡ l.rows) × IsLawful l.rows
+invariant-loop-place g l = IsSound l.journal × (rows_of (acknowledged l.journal) ≡ l.rows) × IsLawful l.rows
