@@ -22,7 +22,7 @@ use Rattle.fam_model.specs.Operations.{result}
 use Rattle.fam_model.specs.Programs.{placed, program_of}
 use Rattle.fam_model.specs.Text.{Asked, next_call}
 use Rattle.fam_model.specs.Turn.{call_made}
-use Rattle.fam_schedule.specs.Schedule.{Run, event_of, event_after, first_event, replies_to}
+use Rattle.fam_schedule.specs.Schedule.{Comes, Run, event_of, event_after, first_event, replies_to}
 use Rattle.fam_schedule.proofs.Options.{bind_some, or_none}
 use Rattle.fam_schedule.proofs.Told.{speaks, is_mine, Below, told_as, calls_skip, calls_made, calls_answered}
 use Rattle.fam_schedule.proofs.Follows.{Tells, Settled, Awaits, waits_below}
