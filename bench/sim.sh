@@ -6,7 +6,7 @@
 set -eu
 cd "$(dirname "$0")/../crates/famrun"
 printf 'service 1 1 64\nstop\n' | rt run -- sim 0 >/dev/null 2>&1
-program=out/famrun
+program=$PWD/out/famrun
 folder=$(mktemp -d)
 trap 'rm -rf "$folder"' EXIT
 
@@ -60,7 +60,8 @@ copies() {
 # milliseconds of one run
 spent() {
     local time
-    time=$({ TIMEFORMAT=%3U; time "$program" sim 1 <"$1" >"$folder/report"; } 2>&1 | tr -d .)
+    rm -f "$folder/fam.journal"
+    time=$({ cd "$folder"; TIMEFORMAT=%3U; time "$program" sim 1 <"$1" >"$folder/report"; } 2>&1 | tr -d .)
     echo $((10#$time))
 }
 

@@ -8,5 +8,6 @@ mod Lining
 mod Meaning
 mod Openings
 mod Owning
+mod Scripts
 mod Told
 mod Turning

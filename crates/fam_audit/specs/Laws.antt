@@ -1,8 +1,9 @@
 -- What a verdict means.
-use Rattle.std.specs.Prelude.{◌≡◌, ℕ, length, IsTrue}
+use Rattle.std.specs.Prelude.{◌≡◌, ℕ, List, length, IsTrue}
 use Rattle.fam_model.specs.declared.report.Report.{Report}
 use Rattle.fam_model.specs.declared.script.Script.{Script}
 use Rattle.fam_model.specs.Headline.{opening, follows_script, HasEnded}
+use Rattle.fam_model.specs.Grammar.{IsScript}
 use Rattle.fam_model.specs.History.{is_legal}
 use Rattle.fam_model.specs.Limits.{service_limits}
 use Rattle.fam_model.specs.ReportText.{reply_lines}
@@ -27,3 +28,7 @@ LegalReportsAreOfRuns =
 abbrev pub ReportsOfRunsAreLegal : Type 0
 ReportsOfRunsAreLegal =
     (script : Script) (report : Report) → IsReportOf script report → verdict script report ≡ verdicts.Legal (length report.history)
+
+-- bytes are the text of one script at most, so there is one verdict on them
+abbrev pub BytesAreOneScript : Type 0
+BytesAreOneScript = (bytes : List ℕ) (a b : Script) → IsScript bytes a → IsScript bytes b → a ≡ b

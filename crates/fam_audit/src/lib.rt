@@ -13,6 +13,7 @@ mod tests;
 mod turn;
 mod verdict;
 
+pub use copying::copy_of_rows;
 pub use judging::audit;
-pub use laws::{legal_reports_are_of_runs, reports_of_runs_are_legal};
+pub use laws::{bytes_are_one_script, legal_reports_are_of_runs, reports_of_runs_are_legal};
 pub use verdict::Verdict;

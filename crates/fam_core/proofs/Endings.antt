@@ -1,13 +1,18 @@
 -- A run that was played, and its lines.
-use Rattle.std.proofs.Common.{◌≡◌, ℕ, ◌<◌, true, false, List, [], length, refl, sym, ap, ◌∙◌, subst, arith}
-use Rattle.std.specs.Prelude.{Ok, None, Some}
+use Rattle.std.proofs.Common.{◌≡◌, ℕ, ◌<◌, Bool, true, false, List, [], length, refl, sym, ap, ◌∙◌, subst, arith}
+use Rattle.std.specs.Prelude.{Result, Ok, Err, None, Some, IfOk, OnErr}
 use Rattle.std.specs.List.{enumerate_from, filter_map, flat_map}
 use Rattle.std.proofs.lemmas.Bool.{false≢true}
 use Rattle.std.proofs.lemmas.Option.{slice_get_within}
 use Rattle.rand_pcg.specs.Lcg.{Lcg}
+use Rattle.fam_base.specs.declared.error.NoMemory.{NoMemory}
+use Rattle.fam_disk.specs.declared.disk.Disk.{Ghosts}
+use Rattle.fam_keeper.specs.Keeping.{HasKeptIn}
+use Rattle.fam_keeper.specs.declared.keeper.Keeper.{Keeper}
 use Rattle.fam_model.specs.declared.event.Event.{Event}
 use Rattle.fam_model.specs.declared.rows.Rows.{Rows}
 use Rattle.fam_model.specs.declared.script.Script.{Script}
+use Rattle.fam_model.specs.declared.state.State.{State}
 use Rattle.fam_model.specs.History.{calls}
 use Rattle.fam_model.specs.Lists.{numbers_below}
 use Rattle.fam_model.specs.ReportText.{numbered, reply_lines}
@@ -20,7 +25,9 @@ use Rattle.fam_schedule.proofs.Whole.{leads_ends, tells_new}
 use Rattle.std.specs.Global.{Global}
 use Rattle.std.specs.Prelude.{Vec}
 use Rattle.fam_model.specs.declared.report.ReplyLine.{ReplyLine}
+use Rattle.fam_steps.specs.Crash.{IsFresh, IsKeptRun}
 use Rattle.fam_steps.specs.Steps.{Course}
+use Rattle.fam_steps.proofs.Keeping.{some_kept}
 use Rattle.fam_core.specs.declared.simulation.Played.{Played}
 use Rattle.fam_core.specs.Playing.{Advances, IsPlayed, IsPlayedOut, IsOpened, StandsAfter, run_of}
 use Rattle.fam_core.proofs.Going.{element_at}
@@ -32,6 +39,9 @@ pub begins : (rows : Rows) (script : Script) (seed : ℕ) (player : Player) (wor
 begins rows script seed player words opened same =
     subst (λ history. StandsAfter rows script seed history player words) (sym opened.stands.made)
     (record { leads = ap (λ state. record { before = []; now = state; words = words }) opened.machine ∙ ap (λ w. record (new_run rows script seed) { words = w }) same; stands = opened.stands })
+
+pub begun_course : (rows : Rows) (script : Script) (player : Player) → IsOpened rows script player → record { history = []; state = opening rows script } ≡ player.service
+begun_course rows script player opened = λ i. record { history = sym opened.stands.made i; state = sym opened.machine i }
 
 pub nothing_yet : (rows : Rows) (script : Script) (seed : ℕ) → IsScheduled rows script seed [] false
 nothing_yet rows script seed = record { end = new_run rows script seed; leads = refl; stops = λ e. absurd (false≢true e) }
@@ -70,6 +80,11 @@ pub played_out : (rows : Rows) (script : Script) (seed : ℕ) (old new : Player)
 played_out rows script seed old new words later s (same, none) =
     subst (λ player. IsPlayed rows script seed player true) (sym same) (words, s, none script old.service.history s.stands)
 
+-- a run that was played is also one so far
+pub played_so_far : (rows : Rows) (script : Script) (seed : ℕ) (player : Player) (all : Bool) → IsPlayed rows script seed player all → IsScheduled rows script seed player.service.history false
+played_so_far rows script seed player true (words, s, none) = so_far rows script seed player.service.history player words s
+played_so_far rows script seed player false s = s
+
 -- what is handed out of a run so far
 pub out_so_far : (rows : Rows) (script : Script) (seed : ℕ) (player : Player) (played : Played) → played.service ≡ player.service → played.whole ≡ false →
     IsScheduled rows script seed player.service.history false → IsPlayedOut rows script seed played
@@ -89,3 +104,9 @@ out_whole rows script seed player replies lines (words, s, none) =
       state = λ e. behind rows script seed player.service.history player words s;
       replies = λ e. lines ∙ all_told rows script seed player.service.history player words s;
     }
+
+-- the rows that a keeper has behind a script, or where none was played
+pub any_kept : {D : Type 0} {disk : Ghosts D} (start : State) (first now : Keeper D disk) (rows : Rows) (result : Result Played NoMemory) → IsFresh first rows → IfOk result (λ played. IsKeptRun start first played.service now) →
+    OnErr result (now ≡ first) → (kept : Rows) × HasKeptIn now.journal kept
+any_kept start first now rows (Ok played) fresh kept untouched = some_kept now.journal now.stopped played.service.state.rows kept.kept
+any_kept start first now rows (Err e) fresh kept untouched = (rows, subst (λ k. HasKeptIn k.journal rows) (sym untouched) fresh.kept)

@@ -20,9 +20,9 @@ use Rattle.fam_model.specs.Text.{next_call}
 use Rattle.fam_ready.specs.Ready.{AreReady}
 use Rattle.fam_ready.proofs.States.{step_tidy}
 use Rattle.fam_schedule.specs.Schedule.{Program, Stripe, PieceName, actors, is_some_of, new_run, next_step, program_event, ready_on, replies_to}
-use Rattle.fam_schedule.proofs.Comes.{Comes, comes_next}
+use Rattle.fam_schedule.proofs.Refusals.{IsDueOrRefused, comes_instead}
 use Rattle.fam_schedule.proofs.Moves.{step_moves}
-use Rattle.fam_schedule.proofs.Runs.{TellsAll, tells_next}
+use Rattle.fam_schedule.proofs.Runs.{TellsAll, tells_instead}
 use Rattle.fam_turns.specs.Turns.{event_with}
 use Rattle.fam_turns.proofs.Scheduled.{is_scheduled}
 use Rattle.ready_lists.specs.Lists.{busy_stripes, names_at}
@@ -36,7 +36,7 @@ use Rattle.fam_base.specs.declared.error.NoMemory.{NoMemory}
 use Rattle.std.proofs.lemmas.Bool.{false≢true}
 use Rattle.fam_model.specs.Step.{step}
 use Rattle.fam_steps.specs.Steps.{Course}
-use Rattle.fam_schedule.specs.Schedule.{IsScheduled, LeadsTo, went_on}
+use Rattle.fam_schedule.specs.Schedule.{Comes, IsScheduled, LeadsTo, went_on}
 use Rattle.fam_core.specs.Playing.{Advances, Chooses, ComesNot, IsMade, IsNext, IsRunning, IsStanding, Makes, Stands, StandsAfter, acting, asked_by, chosen_event, may_go, run_of}
 use Rattle.fam_core.specs.Turns.{Heard, IsTurn, told_to}
 use Rattle.fam_core.proofs.Hearing.{hears}
@@ -138,12 +138,12 @@ heard_turn text pe None replies later old new is same e = subst (λ rs. IsTurn t
 heard_turn text pe (Some given) replies later old new is goes e = subst (λ rs. IsTurn text pe rs new) (sym e) (goes text replies is)
 
 -- the state after the next event
-pub stands_next : (script : Script) (history : List Event) (old new : Player) (words later : Lcg) (event : Event) → Stands script history old →
-    next_step script (run_of old history words) ≡ Some (the_step event later) → Makes old event new → Stands script (history ++ event ∷ []) new
-stands_next script history old new words later event s chosen makes =
+pub stands_next : (script : Script) (history : List Event) (old new : Player) (words later : Lcg) (due event : Event) → Stands script history old →
+    next_step script (run_of old history words) ≡ Some (the_step due later) → Comes old.service.state due event → Makes old event new → Stands script (history ++ event ∷ []) new
+stands_next script history old new words later due event s chosen instead makes =
     let run = run_of old history words in
     let moves = step_moves service_limits old.service.state new.service.state event makes.makes.steps in
-    let comes : Comes script run event = comes_next script run (the_step event later) chosen in
+    let comes : IsDueOrRefused script run event = comes_instead script run due event later chosen instead in
     let count = makes.hears.count in
     let few = s.few in
     record {
@@ -156,20 +156,20 @@ stands_next script history old new words later event s chosen makes =
           heard_turn text pe (told_to pe event) (replies_to history pe) (replies_to (history ++ event ∷ []) pe) was.0 turn (s.turns pe was.0 text was.1 there)
           (makes.hears.each pe was.0 turn was.1 at) (hears script run text pe event there (s.tells words) comes);
       ready = makes.follows old.service.state s.ready s.tidy makes.makes.steps;
-      tells = λ others. tells_with script (history ++ event ∷ []) new.service.state later others (tells_next script run event new.service.state later (s.tells words) comes makes.makes.steps);
+      tells = λ others. tells_with script (history ++ event ∷ []) new.service.state later others (tells_instead script run event new.service.state later (s.tells words) comes makes.makes.steps);
       tidy = step_tidy service_limits old.service.state new.service.state event makes.makes.steps s.tidy;
       made = makes.makes.kept ∙ ap (λ history. history ++ event ∷ []) s.made;
     }
 
--- the event of what was chosen comes next
-chosen_next : (old : Player) (words later : Lcg) (choice : Chosen) (event : Event) (next : State) → Chooses old words later (Some choice) → chosen_event old choice ≡ Some event →
-    step service_limits old.service.state event ≡ Some next → IsNext old words event later next
-chosen_next old words later choice event next chooses is steps script history s = (chooses script history s ∙ ap (with_words later) is, steps)
+-- the event of what was chosen is due next
+chosen_next : (old : Player) (words later : Lcg) (choice : Chosen) (due event : Event) (next : State) → Chooses old words later (Some choice) → chosen_event old choice ≡ Some due →
+    Comes old.service.state due event → step service_limits old.service.state event ≡ Some next → IsNext old words due event later next
+chosen_next old words later choice due event next chooses is comes steps script history s = (chooses script history s ∙ ap (with_words later) is, comes, steps)
 
 pub advances : (old new : Player) (words later : Lcg) (choice : Chosen) (made : Result Bool NoMemory) → Chooses old words later (Some choice) → IsMade old choice new made → Advances old words new later made
-advances old new words later choice (Ok true) chooses (event, is, makes) =
-    let next = chosen_next old words later choice event new.service.state chooses is makes.makes.steps in
-    (event, next, λ script history s. stands_next script history old new words later event s (next script history s).0 makes)
+advances old new words later choice (Ok true) chooses (due, event, is, makes) =
+    let next = chosen_next old words later choice due event new.service.state chooses is makes.comes makes.makes.makes.steps in
+    (due, event, next, λ script history s. stands_next script history old new words later due event s (next script history s).0 makes.comes makes.makes)
 advances old new words later choice (Ok false) chooses (not, same) = (same, λ script history s. comes_not choice not script history (chooses script history s))
   where
     comes_not : (choice : Chosen) → ComesNot old choice → (script : Script) (history : List Event) → next_step script (run_of old history words) ≡ with_words later (chosen_event old choice) →
@@ -177,8 +177,8 @@ advances old new words later choice (Ok false) chooses (not, same) = (same, λ s
     comes_not (chosen.Turn pe) none script history next = next ∙ ap (with_words later) none
     comes_not (chosen.Move asked) not script history next = not_enabled script (run_of old history words) asked later next not
 advances old new words later choice (Err e) chooses (inl same) = inl (ap (λ (c : Course). c.history) same)
-advances old new words later choice (Err e) chooses (inr (event, is, makes)) =
-    inr (event, chosen_next old words later choice event new.service.state chooses is makes.steps, makes.kept)
+advances old new words later choice (Err e) chooses (inr (due, event, is, makes)) =
+    inr (due, event, chosen_next old words later choice due event new.service.state chooses is makes.comes makes.makes.steps, makes.makes.kept)
 
 -- nothing was chosen
 pub nobody_acts : (player : Player) (words later : Lcg) → Chooses player words later None → Advances player words player later (Ok false)
@@ -187,13 +187,13 @@ nobody_acts player words later chooses = (refl, λ script history s. chooses scr
 -- a run that goes on by the next event
 pub goes_on : (rows : Rows) (script : Script) (seed : ℕ) (old new : Player) (words later : Lcg) → StandsAfter rows script seed old.service.history old words →
     Advances old words new later (Ok true) → StandsAfter rows script seed new.service.history new later
-goes_on rows script seed old new words later s (event, next, stands) =
+goes_on rows script seed old new words later s (due, event, next, stands) =
     let history = old.service.history in
     let a = next script history s.stands in
     let stood = stands script history s.stands in
     subst (λ h. StandsAfter rows script seed h new later) (sym stood.made)
     (record {
-      leads = leads_more script (new_run rows script seed) (run_of old history words) history event later new.service.state s.leads a.0 a.1;
+      leads = leads_more script (new_run rows script seed) (run_of old history words) history due event later new.service.state s.leads a.0 a.1 a.2;
       stands = stood;
     })
 
@@ -202,14 +202,14 @@ pub stops_short : (rows : Rows) (script : Script) (seed : ℕ) (old new : Player
     Advances old words new later (Err error) → IsScheduled rows script seed new.service.history false
 stops_short rows script seed old new words later error s (inl same) =
     record { end = run_of old old.service.history words; leads = subst (λ h. LeadsTo script (new_run rows script seed) h (run_of old old.service.history words)) (sym same) s.leads; stops = λ e. absurd (false≢true e) }
-stops_short rows script seed old new words later error s (inr (event, next, kept)) =
+stops_short rows script seed old new words later error s (inr (due, event, next, kept)) =
     let history = old.service.history in
     let a = next script history s.stands in
     let end = went_on (run_of old history words) event new.service.state later in
     record {
       end = end;
       leads = subst (λ h. LeadsTo script (new_run rows script seed) h end) (sym kept)
-          (leads_more script (new_run rows script seed) (run_of old history words) history event later new.service.state s.leads a.0 a.1);
+          (leads_more script (new_run rows script seed) (run_of old history words) history due event later new.service.state s.leads a.0 a.1 a.2);
       stops = λ e. absurd (false≢true e);
     }
 

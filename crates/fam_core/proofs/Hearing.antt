@@ -5,6 +5,7 @@ use Rattle.std.specs.List.{filter_map}
 use Rattle.std.specs.Option.{option_or, option_to_list}
 use Rattle.std.proofs.lemmas.List.Elements.{filter_map-append}
 use Rattle.fam_model.specs.declared.call.Call.{Call}
+use Rattle.fam_model.specs.declared.call.Call.TheVariants as call
 use Rattle.fam_model.specs.declared.event.Event.{Event}
 use Rattle.fam_model.specs.declared.event.What.{What}
 use Rattle.fam_model.specs.declared.event.What.TheVariants as what
@@ -25,7 +26,8 @@ use Rattle.fam_schedule.specs.Schedule.{Run, event_of, event_after, first_event,
 use Rattle.fam_schedule.proofs.Options.{bind_some, or_none}
 use Rattle.fam_schedule.proofs.Told.{speaks, is_mine, Below, told_as, calls_skip, calls_made, calls_answered}
 use Rattle.fam_schedule.proofs.Follows.{Tells, Settled, Awaits, waits_below}
-use Rattle.fam_schedule.proofs.Comes.{Comes, first_makes}
+use Rattle.fam_schedule.proofs.Comes.{first_makes}
+use Rattle.fam_schedule.proofs.Refusals.{IsDueOrRefused, disk_refusal, refused_at}
 use Rattle.fam_schedule.proofs.Runs.{TellsAll, event_of_program, apart_not_mine, silent_not_mine, equal}
 use Rattle.fam_core.specs.Turns.{told_by, told_to}
 
@@ -131,29 +133,35 @@ some_same : {A : Type 0} (x y : A) → Some x ≡ Some y → x ≡ y
 some_same x y e = cc
 
 hears_by : (mine : Bool) (script : Script) (run : Run) (text : Text) (pe : ℕ) (event : Event) → (event.pe.0 == pe) ≡ mine → slice_get script.programs pe ≡ Some text →
-    TellsAll script run → Comes script run event → Hears pe run.before event
+    TellsAll script run → IsDueOrRefused script run event → Hears pe run.before event
 hears_by false script run text pe event e there all comes =
     let one = all pe text there in
     hears_skip text pe one.p.next_call one.p.started run.before event one.tells (apart_not_mine event pe e) (not_told pe event e)
-hears_by true script run text pe event e there all (inl o) =
+hears_by true script run text pe event e there all (inl (inl o)) =
     let one = all pe text there in
     let at : o.pe ≡ pe = sym (event_of_program script run o.pe o.p o.p.started event o.next) ∙ eqb-true event.pe.0 pe e in
     let own : program_of run.now pe ≡ Some o.p = subst (λ k. program_of run.now k ≡ Some o.p) at o.there in
     let p_is : one.p ≡ o.p = some_same one.p o.p (sym one.there ∙ own) in
     hears_own script run text pe o.p event o.p.started there (subst (λ k. event_after script run k o.p o.p.started ≡ Some event) at o.next)
     (subst (λ q. Tells text pe q.next_call q.started run.before) p_is one.tells)
-hears_by true script run text pe event e there all (inr (inl o)) =
+hears_by true script run text pe event e there all (inl (inr (inl o))) =
     let one = all pe text there in
     let silent : told_by event.what ≡ None = ap (λ x. told_by x.what) o.is in
     hears_skip text pe one.p.next_call one.p.started run.before event one.tells (silent_not_mine event pe true e (ap (λ x. speaks x.what) o.is))
     (is_told pe event e ∙ silent)
-hears_by true script run text pe event e there all (inr (inr o)) =
+hears_by true script run text pe event e there all (inl (inr (inr o))) =
     let one = all pe text there in
     let silent : told_by event.what ≡ None = ap (λ x. told_by x.what) o.is in
     hears_skip text pe one.p.next_call one.p.started run.before event one.tells (silent_not_mine event pe true e (ap (λ x. speaks x.what) o.is))
     (is_told pe event e ∙ silent)
+hears_by true script run text pe event e there all (inr o) =
+    let one = all pe text there in
+    let refused = refused_at script run event pe text one.p (eqb-true event.pe.0 pe e) there one.there o in
+    let tells = subst (λ s. Tells text pe one.p.next_call s run.before) refused.nothing one.tells in
+    subst (Hears pe run.before) (sym refused.is)
+    (hears_made text pe one.p.next_call run.before (disk_refusal refused.asked refused.doubt) (call.Meta refused.asked) tells refl)
 
--- an event that the schedule gives tells its program its reply, and the others nothing
-pub hears : (script : Script) (run : Run) (text : Text) (pe : ℕ) (event : Event) → slice_get script.programs pe ≡ Some text → TellsAll script run → Comes script run event →
+-- an event that the schedule gives, or its refusal by the disk, tells its program its reply, and the others nothing
+pub hears : (script : Script) (run : Run) (text : Text) (pe : ℕ) (event : Event) → slice_get script.programs pe ≡ Some text → TellsAll script run → IsDueOrRefused script run event →
     Hears pe run.before event
 hears script run text pe event there all comes = hears_by (event.pe.0 == pe) script run text pe event refl there all comes

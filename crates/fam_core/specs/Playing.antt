@@ -19,7 +19,7 @@ use Rattle.fam_steps.specs.Steps.{Course, event_for}
 use Rattle.fam_steps.specs.Steps as steps
 use Rattle.fam_steps.specs.declared.step.CoreFault.{CoreFault}
 use Rattle.fam_steps.specs.declared.step.Step.{Step as Asked}
-use Rattle.fam_schedule.specs.Schedule.{Run, Actor, Program, Stripe, PieceName, LeadsTo, IsScheduled, drawn, new_run, next_step, replies_to, taken, with_words}
+use Rattle.fam_schedule.specs.Schedule.{Run, Actor, Comes, Program, Stripe, PieceName, LeadsTo, IsScheduled, drawn, new_run, next_step, replies_to, taken, with_words}
 use Rattle.fam_schedule.proofs.Runs.{TellsAll}
 use Rattle.fam_turns.specs.Turns.{event_with}
 use Rattle.ready_lists.specs.Lists.{busy_stripes, names_at}
@@ -140,6 +140,11 @@ pub record Makes (old : Player) (event : Event) (new : Player) : Type 0 where
   pub follows : Follows old.ready event new.service.state new.ready
   pub hears : AreHeard event old.turns new.turns
 
+-- the player after what came where this event is due
+pub record MakesDue (old : Player) (due event : Event) (new : Player) : Type 0 where
+  pub comes : Comes old.service.state due event
+  pub makes : Makes old event new
+
 -- the service after what was chosen; after a fault it is as it was
 abbrev pub Acts : Player → Chosen → Course → Result Unit CoreFault → Type 0
 Acts player (chosen.Turn pe) new result = steps.TakesTurn player.service pe (asked_by player.turns pe) new result
@@ -159,16 +164,18 @@ ComesNot player (chosen.Move asked) = steps.IsNotEnabled player.service.state as
 
 -- whether what was chosen was made; after want of memory the service may have made its event, and nobody heard of it
 abbrev pub IsMade : Player → Chosen → Player → Result Bool NoMemory → Type 0
-IsMade old choice new (Ok true) = (event : Event) × (chosen_event old choice ≡ Some event) × Makes old event new
+IsMade old choice new (Ok true) = (due : Event) × (event : Event) × (chosen_event old choice ≡ Some due) × MakesDue old due event new
 IsMade old choice new (Ok false) = ComesNot old choice × (new ≡ old)
 IsMade old choice new (Err _) =
-    (new.service ≡ old.service) ⊎ ((event : Event) × (chosen_event old choice ≡ Some event) × steps.Makes old.service event new.service)
+    (new.service ≡ old.service)
+    ⊎ ((due : Event) × (event : Event) × (chosen_event old choice ≡ Some due) × steps.MakesDue old.service due event new.service)
 
--- the event that comes next, and the words left; by it the service is in this state
-abbrev pub IsNext : Player → Lcg → Event → Lcg → State → Type 0
-IsNext player words event later next =
+-- the event that comes where this one is due, and the words left; by it the service is in this state
+abbrev pub IsNext : Player → Lcg → Event → Event → Lcg → State → Type 0
+IsNext player words due event later next =
     (script : Script) (history : List Event) → Stands script history player →
-    (next_step script (run_of player history words) ≡ with_words later (Some event)) × (step service_limits player.service.state event ≡ Some next)
+    (next_step script (run_of player history words) ≡ with_words later (Some due)) × Comes player.service.state due event
+    × (step service_limits player.service.state event ≡ Some next)
 
 -- The player after what comes next, and the words left. Nothing does where nobody may act. After want of memory the service
 -- may have made its event.
@@ -176,11 +183,11 @@ abbrev pub Advances : Player → Lcg → Player → Lcg → Result Bool NoMemory
 Advances old words new later (Ok false) =
     (new ≡ old) × ((script : Script) (history : List Event) → Stands script history old → next_step script (run_of old history words) ≡ None)
 Advances old words new later (Ok true) =
-    (event : Event) × IsNext old words event later new.service.state
+    (due : Event) × (event : Event) × IsNext old words due event later new.service.state
     × ((script : Script) (history : List Event) → Stands script history old → Stands script (history ++ event ∷ []) new)
 Advances old words new later (Err _) =
     (new.service.history ≡ old.service.history)
-    ⊎ ((event : Event) × IsNext old words event later new.service.state × (new.service.history ≡ old.service.history ++ event ∷ []))
+    ⊎ ((due : Event) × (event : Event) × IsNext old words due event later new.service.state × (new.service.history ≡ old.service.history ++ event ∷ []))
 
 -- a run that was played on until nobody may act, or until memory was wanting
 abbrev pub IsPlayed : Rows → Script → ℕ → Player → Bool → Type 0

@@ -1,6 +1,8 @@
 //! A run between two events.
 
 ghost use Rattle.std.specs.Prelude.{◌≡◌, IfOk, OnOk};
+ghost use Rattle.fam_keeper.specs.Keeping.{Keeps};
+ghost use Rattle.fam_steps.specs.Crash.{KeepsOn};
 ghost use Rattle.fam_steps.specs.Steps as steps;
 ghost use Rattle.fam_core.specs.Playing.{Acts, asked_by, Follows, IsMade, LetsKnow};
 ghost use Rattle.fam_core.specs.Turns.{AreHeard};
@@ -8,6 +10,8 @@ ghost use Rattle.fam_core.specs.Turns.{AreHeard};
 use crate::chosen::Chosen;
 use crate::turn::{Turn, told};
 use fam_base::{NoMemory, PeId, Sequence};
+use fam_disk::Disk;
+use fam_keeper::Keeper;
 use fam_machine::Machine;
 use fam_model::Event;
 use fam_ready::follow;
@@ -49,35 +53,48 @@ fn hear(turns: &mut Sequence<Turn>, event: &Event) -> Result<(), NoMemory>
 
 impl Player {
     /// The service makes what was chosen.
-    fn act(&mut self, chosen: &Chosen) -> Result<(), CoreFault>
+    fn act<D: Disk>(&mut self, keeper: &mut Keeper<D>, chosen: &Chosen) -> Result<(), CoreFault>
+        requires kept { Keeps keeper.old self.old.service.state.rows }
         ensures acts { Acts self.old chosen.now self.new.service result }
+        ensures kept { Keeps keeper.new self.new.service.state.rows }
+        ensures keeps { KeepsOn self.old.service keeper.old self.new.service keeper.new }
         ensures turns { self.new.turns ≡ self.old.turns }
         ensures ready { self.new.ready ≡ self.old.ready }
     {
         match chosen {
-            Chosen::Turn(pe) => self.take_turn(*pe),
-            Chosen::Move(step) => self.service.advance(step),
+            Chosen::Turn(pe) => self.take_turn(keeper, *pe),
+            Chosen::Move(step) => self.service.advance(keeper, step),
         }
     }
 
     /// The service makes the next event of a program.
-    fn take_turn(&mut self, pe: u32) -> Result<(), CoreFault>
+    fn take_turn<D: Disk>(&mut self, keeper: &mut Keeper<D>, pe: u32) -> Result<(), CoreFault>
+        requires kept { Keeps keeper.old self.old.service.state.rows }
         ensures takes { steps.TakesTurn self.old.service pe (asked_by self.old.turns pe) self.new.service result }
+        ensures kept { Keeps keeper.new self.new.service.state.rows }
+        ensures keeps { KeepsOn self.old.service keeper.old self.new.service keeper.new }
         ensures turns { self.new.turns ≡ self.old.turns }
         ensures ready { self.new.ready ≡ self.old.ready }
     {
         match self.turns.get(pe as usize) {
-            Some(turn) => self.service.go_on(PeId(pe), &turn.asked),
-            None => self.service.go_on(PeId(pe), &None),
+            Some(turn) => self.service.go_on(keeper, PeId(pe), &turn.asked),
+            None => self.service.go_on(keeper, PeId(pe), &None),
         }
     }
 
     /// Makes what was chosen, and lets its event be known. False where that may not come: then nothing is done. After want
     /// of memory the player is of no more use.
-    pub fn make(&mut self, chosen: &Chosen) -> Result<bool, NoMemory>
-        ensures { IsMade self.old chosen.now self.new result }
+    pub fn make<D: Disk>(
+        &mut self,
+        keeper: &mut Keeper<D>,
+        chosen: &Chosen,
+    ) -> Result<bool, NoMemory>
+        requires kept { Keeps keeper.old self.old.service.state.rows }
+        ensures made { IsMade self.old chosen.now self.new result }
+        ensures kept { Keeps keeper.new self.new.service.state.rows }
+        ensures keeps { KeepsOn self.old.service keeper.old self.new.service keeper.new }
     {
-        match self.act(chosen) {
+        match self.act(keeper, chosen) {
             Ok(()) => self.let_know(),
             Err(CoreFault::NotEnabled) => Ok(false),
             Err(CoreFault::Memory) => Err(NoMemory),

@@ -1,6 +1,8 @@
 //! Scripts that are played.
 
 use crate::simulate;
+use fam_disk::MemDisk;
+use fam_keeper::Keeper;
 use fam_model::What;
 use fam_rows::common_rows;
 use fam_script::parse;
@@ -23,7 +25,8 @@ fn plays_programs_side_by_side(rt: HostRuntime) -> Result<(), Fail> {
     for seed in 0..4u64 {
         let script = parse(rt.alloc(), TOGETHER)?;
         let rows = common_rows(rt.alloc())?;
-        let simulated = simulate(rt.alloc(), rows, &script, seed);
+        let mut keeper = Keeper::<MemDisk>::nothing();
+        let simulated = simulate(rt.alloc(), rows, &script, seed, &mut keeper);
         assert!(rt; simulated.whole);
         // Two pieces for the put and two for the get, an issue and an answer for each, and the barrier twice.
         assert_eq!(rt; simulated.history.len(), 14);

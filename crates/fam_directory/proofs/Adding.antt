@@ -22,14 +22,16 @@ use Rattle.fam_rows.proofs.Keeping.{keeps_law}
 use Rattle.fam_rows.proofs.Places.{rises}
 use Rattle.fam_rows.proofs.Standing.{three_parts, four_parts, five_parts, value_tested, nothing_there}
 use Rattle.region_alloc.proofs.Bases.{place_is_base}
-use Rattle.region_alloc.specs.Space.{has_place, with_room}
+use Rattle.region_alloc.specs.declared.extent.Extent.{Extent}
+use Rattle.region_alloc.specs.Gaps.{Holds, space_with}
+use Rattle.region_alloc.specs.Space.{has_place}
 use Rattle.fam_directory.specs.declared.region.Coming.{Coming}
 use Rattle.fam_directory.specs.declared.region.Region.{Region}
 use Rattle.fam_directory.specs.Index.{HasRoom, IsAwaited, IsIndexOf, IsIndexed, NewName, adds_item, adds_region, new_name, number_of, rows_of, waits_for}
 use Rattle.fam_directory.specs.Names.{NameMap, named}
 use Rattle.fam_directory.specs.Slots.{ItemList}
 use Rattle.fam_directory.proofs.Changed.{number_at, new_rows, created}
-use Rattle.fam_directory.proofs.Indexes.{replaced}
+use Rattle.fam_directory.proofs.Indexes.{RoomsStay, RoomTaken, replaced}
 use Rattle.fam_directory.proofs.Lookups.{numbers_rise}
 use Rattle.fam_directory.proofs.Moves.{map_set_same, set_all}
 use Rattle.fam_directory.proofs.Placed.{index_grown, indexes_grown}
@@ -85,7 +87,7 @@ new_region rows n uid gid mode size name ok =
     let good = four_parts (ltb uid nobody) (leb mode 511) (leb size max_region_size) (is_good_name name) parts.1 in
     (leb-true _ _ good.2, ltb-true _ _ numbers.1, leb-true _ _ parts.4, nothing_there (region_named rows name) parts.2)
 
-pub create_step : (regions new : List Region) (items : List ItemRow) (a b total : ℕ) (names new_names : NameMap) (n : RegionId) (uid gid mode size : ℕ) (name key : List ℕ) (now : Region) → IsIndexed (rows_of regions items a b) regions names total → is_lawful_change (rows_of regions items a b) (change.CreateRegion n uid gid mode size name) ≡ true → now.row ≡ record { number = n; uid = uid; gid = gid; mode = mode; size = size; name = name } → ((q : List ℕ) → named q now.items ≡ None) → now.room.size ≡ now.row.size → now.room.rooms ≡ [] → key ≡ name → ((q : List ℕ) → named q new_names ≡ cond (bytes_eq key q) (Some n.0) (named q names)) → new ≡ regions ++ now ∷ [] →
+pub create_step : (regions new : List Region) (items : List ItemRow) (a b total : ℕ) (names new_names : NameMap) (n : RegionId) (uid gid mode size : ℕ) (name key : List ℕ) (now : Region) → IsIndexed (rows_of regions items a b) regions names total → is_lawful_change (rows_of regions items a b) (change.CreateRegion n uid gid mode size name) ≡ true → now.row ≡ record { number = n; uid = uid; gid = gid; mode = mode; size = size; name = name } → ((q : List ℕ) → named q now.items ≡ None) → now.room.size ≡ now.row.size → Holds now.room [] → key ≡ name → ((q : List ℕ) → named q new_names ≡ cond (bytes_eq key q) (Some n.0) (named q names)) → new ≡ regions ++ now ∷ [] →
     IsIndexed (rows_of new items (n.0 + 1) b) new new_names (total + size)
     × (rows_of new items (n.0 + 1) b ≡ after (rows_of regions items a b) (change.CreateRegion n uid gid mode size name))
 create_step regions new items a b total names new_names n uid gid mode size name key now h ok row nothing same_size rooms same added grown = (
@@ -109,29 +111,29 @@ new_number rows i n base size uid gid mode name ok =
     omega (arith, same)
 
 pub new_place : (regions : List Region) (items : List ItemRow) (a b k : ℕ) (n : RegionId) (base size : ℕ) (x : Region) → All (IsIndexOf (rows_of regions items a b)) regions → is_some_and (region_of (rows_of regions items a b) n.0) (λ row. fits (rows_of regions items a b) row size base) ≡ true → place_of number_of n.0 regions ≡ Some k → k < length regions → x ≡ get_or regions k x →
-    IsIndexOf (rows_of regions items a b) x × (fits (rows_of regions items a b) x.row size base ≡ true) × (has_place x.room size base ≡ true)
+    IsIndexOf (rows_of regions items a b) x × (fits (rows_of regions items a b) x.row size base ≡ true) × ((rooms : List Extent) × Holds x.room rooms × (has_place (space_with x.room rooms) size base ≡ true))
 new_place regions items a b k n base size x all fitting at lt is =
     let rows = rows_of regions items a b in
     let there = value_tested (region_of rows n.0) (λ row. fits rows row size base) fitting in
     let same : there.0 ≡ x.row = cc (sym there.1 ∙ row_there regions items a b n.0 k x at lt is) in
     let index = subst (IsIndexOf rows) (sym is) (all k x lt) in
     let fitted : fits rows x.row size base ≡ true = ap (λ (r : RegionRow). fits rows r size base) (sym same) ∙ there.2 in
-    (index, fitted, place_is_base rows x.row x.room size base index.space ∙ fitted)
+    (index, fitted, (index.ranges.rooms, index.ranges.held, place_is_base rows x.row (space_with x.room index.ranges.rooms) size base index.ranges.space ∙ fitted))
 
 -- in the index of its region
-pub add_step : (regions : List Region) (items left : List ItemRow) (a b next k : ℕ) (item : ItemRow) (key : List ℕ) (x now : Region) → AllPairs (λ s t. number_of s < number_of t) regions → All (IsIndexOf (rows_of regions items a b)) regions → item_named (rows_of regions items a b) item.region.0 item.name ≡ None → is_some_and (region_of (rows_of regions items a b) item.region.0) (λ row. fits (rows_of regions items a b) row item.size item.base) ≡ true → place_of number_of item.region.0 regions ≡ Some k → k < length regions → x ≡ get_or regions k x → left ≡ items ++ item ∷ [] → now.row ≡ x.row → key ≡ item.name → ((q : List ℕ) → named q now.items ≡ cond (bytes_eq key q) (Some item.number.0) (named q x.items)) → now.room.size ≡ x.room.size → now.room.rooms ≡ with_room item.base item.size x.room.rooms →
+pub add_step : (regions : List Region) (items left : List ItemRow) (a b next k : ℕ) (item : ItemRow) (key : List ℕ) (x now : Region) → AllPairs (λ s t. number_of s < number_of t) regions → All (IsIndexOf (rows_of regions items a b)) regions → item_named (rows_of regions items a b) item.region.0 item.name ≡ None → is_some_and (region_of (rows_of regions items a b) item.region.0) (λ row. fits (rows_of regions items a b) row item.size item.base) ≡ true → place_of number_of item.region.0 regions ≡ Some k → k < length regions → x ≡ get_or regions k x → left ≡ items ++ item ∷ [] → now.row ≡ x.row → key ≡ item.name → ((q : List ℕ) → named q now.items ≡ cond (bytes_eq key q) (Some item.number.0) (named q x.items)) → now.room.size ≡ x.room.size → RoomTaken x.room now.room item.base item.size →
     All (IsIndexOf (rows_of (set regions k now) left a next)) (set regions k now) × (map (λ (r : Region). r.row) (set regions k now) ≡ map (λ (r : Region). r.row) regions)
 add_step regions items left a b next k item key x now rise all unnamed fitting at lt is grown row same added space rooms =
     let rows = rows_of regions items a b in
     let placed = new_place regions items a b k item.region item.base item.size x all fitting at lt is in
     let here : number_of x ≡ item.region.0 = ap number_of is ∙ number_at regions item.region.0 k x at lt in
     let parts = three_parts (eqb (item.base % 64) 0) (leb (item.base + room item.size) x.row.size) (list_all (is_beside item.size item.base) (items_in rows (region_number x.row))) placed.1 in
-    let index = index_grown rows (rows_of (set regions k now) left a next) x now item grown here unnamed parts.2 row (λ q. added q ∙ ap (λ n. cond (bytes_eq n q) (Some item.number.0) (named q x.items)) same) space rooms placed.0 in (
+    let index = index_grown rows (rows_of (set regions k now) left a next) x now item grown here unnamed placed.1 parts.2 row (λ q. added q ∙ ap (λ n. cond (bytes_eq n q) (Some item.number.0) (named q x.items)) same) space rooms placed.0 in (
       indexes_grown rows (rows_of (set regions k now) left a next) regions k now item rise grown lt (number_at regions item.region.0 k now at lt) all index,
       map_set_same (λ (r : Region). r.row) k regions now lt (row ∙ sym (ap (λ (r : Region). r.row) (read_at regions k x now lt is))),
     )
 
-pub allocate_step : (regions : List Region) (items left : List ItemRow) (a b k total : ℕ) (names : NameMap) (i : ItemId) (n : RegionId) (base size uid gid mode : ℕ) (name key label : List ℕ) (x now : Region) → IsIndexed (rows_of regions items a b) regions names total → is_lawful_change (rows_of regions items a b) (change.Allocate i n base size uid gid mode name) ≡ true → place_of number_of n.0 regions ≡ Some k → k < length regions → x ≡ get_or regions k x → key ≡ name → label ≡ name → left ≡ items ++ record { number = i; region = n; base = base; size = size; uid = uid; gid = gid; mode = mode; name = label } ∷ [] → now.row ≡ x.row → ((q : List ℕ) → named q now.items ≡ cond (bytes_eq key q) (Some i.0) (named q x.items)) → now.room.size ≡ x.room.size → now.room.rooms ≡ with_room base size x.room.rooms →
+pub allocate_step : (regions : List Region) (items left : List ItemRow) (a b k total : ℕ) (names : NameMap) (i : ItemId) (n : RegionId) (base size uid gid mode : ℕ) (name key label : List ℕ) (x now : Region) → IsIndexed (rows_of regions items a b) regions names total → is_lawful_change (rows_of regions items a b) (change.Allocate i n base size uid gid mode name) ≡ true → place_of number_of n.0 regions ≡ Some k → k < length regions → x ≡ get_or regions k x → key ≡ name → label ≡ name → left ≡ items ++ record { number = i; region = n; base = base; size = size; uid = uid; gid = gid; mode = mode; name = label } ∷ [] → now.row ≡ x.row → ((q : List ℕ) → named q now.items ≡ cond (bytes_eq key q) (Some i.0) (named q x.items)) → now.room.size ≡ x.room.size → RoomTaken x.room now.room base size →
     IsIndexed (rows_of (set regions k now) left a (i.0 + 1)) (set regions k now) names total
     × (rows_of (set regions k now) left a (i.0 + 1) ≡ after (rows_of regions items a b) (change.Allocate i n base size uid gid mode name))
 allocate_step regions items left a b k total names i n base size uid gid mode name key label x now h ok at lt is same labelled grown row added space rooms =
@@ -165,7 +167,7 @@ not_item chosen none e = false≢true e
 pub renamed_index : (rows : Rows) (regions : List Region) (names new : NameMap) (total : ℕ) → ((q : List ℕ) → named q new ≡ named q names) → IsIndexed rows regions names total → IsIndexed rows regions new total
 renamed_index rows regions names new total same h = record { lawful = h.lawful; by_name = λ q. same q ∙ h.by_name q; sum = h.sum; indexes = h.indexes }
 
-pub ready_step : (regions : List Region) (items : List ItemRow) (a b n k total : ℕ) (names : NameMap) (x now : Region) → IsIndexed (rows_of regions items a b) regions names total → place_of number_of n regions ≡ Some k → k < length regions → x ≡ get_or regions k x → now.row ≡ x.row → ((q : List ℕ) → named q now.items ≡ named q x.items) → now.room.size ≡ x.room.size → now.room.rooms ≡ x.room.rooms →
+pub ready_step : (regions : List Region) (items : List ItemRow) (a b n k total : ℕ) (names : NameMap) (x now : Region) → IsIndexed (rows_of regions items a b) regions names total → place_of number_of n regions ≡ Some k → k < length regions → x ≡ get_or regions k x → now.row ≡ x.row → ((q : List ℕ) → named q now.items ≡ named q x.items) → now.room.size ≡ x.room.size → RoomsStay x.room now.room →
     IsIndexed (rows_of (set regions k now) items a b) (set regions k now) names total
     × (rows_of (set regions k now) items a b ≡ rows_of regions items a b)
 ready_step regions items a b n k total names x now h at lt is row found space rooms =
@@ -175,8 +177,8 @@ ready_step regions items a b n k total names x now h at lt is row found space ro
     let size = ap (λ (r : RegionRow). r.size) row_is in (
       replaced regions items a b n k total total names now h lt (number_at regions n k now at lt) (ap region_number row_is) (ap (λ (r : RegionRow). r.name) row_is)
           (λ q. found q ∙ sym (ap (λ (r : Region). named q r.items) old))
-          (space ∙ sym (ap (λ (r : Region). r.room.size) old) ∙ (h.indexes k now lt).space.same_size ∙ sym size)
-          (rooms ∙ sym (ap (λ (r : Region). r.room.rooms) old)) (omega (arith, size)) (subst IsLawful (sym equal) h.lawful),
+          (space ∙ sym (ap (λ (r : Region). r.room.size) old) ∙ (h.indexes k now lt).ranges.space.same_size ∙ sym size)
+          (λ l held. rooms l (subst (λ (r : Region). Holds r.room l) old held)) (omega (arith, size)) (subst IsLawful (sym equal) h.lawful),
       equal,
     )
 

@@ -20,13 +20,16 @@ use Rattle.fam_model.specs.Lists.{◌>>=◌, change_number, drop_number, find_nu
 use Rattle.fam_model.specs.Rows.{IsLawful, item_number, item_of, item_named, items_in}
 use Rattle.fam_rows.proofs.Places.{rises}
 use Rattle.fam_rows.proofs.Standing.{three_parts, four_parts, value_tested}
-use Rattle.region_alloc.specs.Space.{has_room, without_room}
+use Rattle.region_alloc.specs.declared.extent.Extent.{Extent}
+use Rattle.region_alloc.specs.Gaps.{Holds}
+use Rattle.region_alloc.specs.Space.{has_room}
 use Rattle.fam_directory.specs.declared.region.Region.{Region}
 use Rattle.fam_directory.specs.Index.{IsIndexOf, IsIndexed, number_of, rows_of}
 use Rattle.fam_directory.specs.Names.{NameEntry, NameMap, named}
 use Rattle.fam_directory.specs.Slots.{with_mode, without_numbers}
 use Rattle.fam_directory.proofs.Changed.{item_at}
 use Rattle.fam_directory.proofs.Destroyed.{outside}
+use Rattle.fam_directory.proofs.Indexes.{RoomFreed}
 use Rattle.fam_directory.proofs.Moves.{changed_is, one_passes, removed_is}
 use Rattle.fam_directory.proofs.Naming.{equal_names, same_name}
 use Rattle.fam_directory.proofs.Placed.{all_others, others_here}
@@ -73,12 +76,12 @@ region_found regions items a b n x lawful e =
     let place = found_place n items x e in
     row_region_there regions items a b place.0 x lawful place.2 place.3
 
-pub room_found : (regions : List Region) (items : List ItemRow) (a b n k total : ℕ) (names : NameMap) (x : ItemRow) (r : Region) → IsIndexed (rows_of regions items a b) regions names total → Some x ≡ find_number item_number n items → place_of number_of x.region.0 regions ≡ Some k → k < length regions → r ≡ get_or regions k r → has_room x.base r.room.rooms ≡ true
+pub room_found : (regions : List Region) (items : List ItemRow) (a b n k total : ℕ) (names : NameMap) (x : ItemRow) (r : Region) → IsIndexed (rows_of regions items a b) regions names total → Some x ≡ find_number item_number n items → place_of number_of x.region.0 regions ≡ Some k → k < length regions → r ≡ get_or regions k r → (rooms : List Extent) × Holds r.room rooms × (has_room x.base x.size rooms ≡ true)
 room_found regions items a b n k total names x r h e at lt is =
     let place = found_place n items x e in
     free_room regions items a b place.0 k total names x r h place.2 place.3 at lt is
 
-pub item_dropped : (regions : List Region) (items left : List ItemRow) (a b new_b k total : ℕ) (names : NameMap) (n : ItemId) (x : ItemRow) (r now : Region) → IsIndexed (rows_of regions items a b) regions names total → is_lawful_change (rows_of regions items a b) (change.Deallocate n) ≡ true → Some x ≡ find_number item_number n.0 items → left ≡ drop_number item_number n.0 items → new_b ≡ b → place_of number_of x.region.0 regions ≡ Some k → k < length regions → r ≡ get_or regions k r → now.row ≡ r.row → ((q : List ℕ) → named q now.items ≡ cond (bytes_eq x.name q) None (named q r.items)) → now.room.size ≡ r.room.size → now.room.rooms ≡ without_room x.base r.room.rooms →
+pub item_dropped : (regions : List Region) (items left : List ItemRow) (a b new_b k total : ℕ) (names : NameMap) (n : ItemId) (x : ItemRow) (r now : Region) → IsIndexed (rows_of regions items a b) regions names total → is_lawful_change (rows_of regions items a b) (change.Deallocate n) ≡ true → Some x ≡ find_number item_number n.0 items → left ≡ drop_number item_number n.0 items → new_b ≡ b → place_of number_of x.region.0 regions ≡ Some k → k < length regions → r ≡ get_or regions k r → now.row ≡ r.row → ((q : List ℕ) → named q now.items ≡ cond (bytes_eq x.name q) None (named q r.items)) → now.room.size ≡ r.room.size → RoomFreed r.room now.room x.base x.size →
     IsIndexed (rows_of (set regions k now) left a new_b) (set regions k now) names total
     × (rows_of (set regions k now) left a new_b ≡ after (rows_of regions items a b) (change.Deallocate n))
 item_dropped regions items left a b new_b k total names n x r now h ok e dropped next at lt is row gone space rooms =

@@ -22,12 +22,13 @@ use Rattle.fam_rows.proofs.Keeping.{keeps_law}
 use Rattle.fam_rows.proofs.Places.{rises}
 use Rattle.fam_rows.proofs.Searches.{lawful_region}
 use Rattle.fam_rows.proofs.Standing.{five_parts, value_tested, nothing_there}
+use Rattle.region_alloc.specs.Gaps.{Holds}
 use Rattle.region_alloc.specs.Items.{room_of}
 use Rattle.fam_directory.specs.declared.region.Region.{Region}
 use Rattle.fam_directory.specs.Index.{IsIndexOf, IsIndexed, number_of, rows_of}
 use Rattle.fam_directory.specs.Names.{NameMap, named}
 use Rattle.fam_directory.proofs.Lookups.{items_of_none, at_place, has_number, region_of_is}
-use Rattle.fam_directory.proofs.Indexes.{index_kept, index_bare, bare, row_changed, replaced}
+use Rattle.fam_directory.proofs.Indexes.{RoomsStay, index_kept, index_bare, bare, row_changed, replaced}
 use Rattle.fam_directory.proofs.Moves.{changed_is, map_set_same, number_in, name_added}
 
 -- the region of a number that is there has a place
@@ -68,8 +69,8 @@ mode_rows regions items a b k mode n now lawful lt is row =
 pub mode_changed : (regions : List Region) (items : List ItemRow) (a b k total mode : ℕ) (names : NameMap) (n : RegionId) (now : Region) → IsIndexed (rows_of regions items a b) regions names total → is_lawful_change (rows_of regions items a b) (change.SetRegionMode n mode) ≡ true → k < length regions → number_of (get_or regions k now) ≡ n.0 → now.row ≡ record (get_or regions k now).row { mode = mode } → now.items ≡ (get_or regions k now).items → now.room ≡ (get_or regions k now).room → IsIndexed (rows_of (set regions k now) items a b) (set regions k now) names total
 mode_changed regions items a b k total mode names n now h ok lt is row found space =
     replaced regions items a b n.0 k total total names now h lt is (ap region_number row) (ap (λ (r : RegionRow). r.name) row) (λ name. ap (named name) found)
-    (ap (λ s. s.size) space ∙ (h.indexes k now lt).space.same_size ∙ sym (ap (λ (r : RegionRow). r.size) row))
-    (ap (λ s. s.rooms) space)
+    (ap (λ s. s.size) space ∙ (h.indexes k now lt).ranges.space.same_size ∙ sym (ap (λ (r : RegionRow). r.size) row))
+    (λ rooms. subst (λ s. Holds s rooms) (sym space))
     (let size = ap (λ (r : RegionRow). r.size) row in omega (arith, size))
     (subst IsLawful (sym (mode_rows regions items a b k mode n now h.lawful lt is row)) (keeps_law (rows_of regions items a b) (change.SetRegionMode n mode) h.lawful ok))
 
@@ -77,7 +78,7 @@ pub size_rows : (regions : List Region) (items : List ItemRow) (a b k size : ℕ
 size_rows regions items a b k size n now lawful lt is row =
     ap (λ (l : List RegionRow). let rows : Rows = record { regions = l; items = items; next_region = a; next_item = b } in rows) (row_changed regions items a b n.0 k now (λ x. record x { size = size }) lawful lt is row)
 
-pub size_changed : (regions : List Region) (items : List ItemRow) (a b k total new_total size : ℕ) (names : NameMap) (n : RegionId) (now : Region) → IsIndexed (rows_of regions items a b) regions names total → is_lawful_change (rows_of regions items a b) (change.ResizeRegion n size) ≡ true → k < length regions → number_of (get_or regions k now) ≡ n.0 → now.row ≡ record (get_or regions k now).row { size = size } → now.items ≡ (get_or regions k now).items → now.room.size ≡ size → now.room.rooms ≡ (get_or regions k now).room.rooms → new_total + (get_or regions k now).row.size ≡ total + size → IsIndexed (rows_of (set regions k now) items a b) (set regions k now) names new_total
+pub size_changed : (regions : List Region) (items : List ItemRow) (a b k total new_total size : ℕ) (names : NameMap) (n : RegionId) (now : Region) → IsIndexed (rows_of regions items a b) regions names total → is_lawful_change (rows_of regions items a b) (change.ResizeRegion n size) ≡ true → k < length regions → number_of (get_or regions k now) ≡ n.0 → now.row ≡ record (get_or regions k now).row { size = size } → now.items ≡ (get_or regions k now).items → now.room.size ≡ size → RoomsStay (get_or regions k now).room now.room → new_total + (get_or regions k now).row.size ≡ total + size → IsIndexed (rows_of (set regions k now) items a b) (set regions k now) names new_total
 size_changed regions items a b k total new_total size names n now h ok lt is row found same_size rooms sum =
     let new_size = ap (λ (r : RegionRow). r.size) row in
     replaced regions items a b n.0 k total new_total names now h lt is (ap region_number row) (ap (λ (r : RegionRow). r.name) row) (λ name. ap (named name) found)
@@ -118,7 +119,7 @@ fresh_region rows lawful = by (region_of rows rows.next_region) refl where
       let same = has_number region_number rows.next_region rows.regions row is in
       absurd (omega (arith, below, same))
 
-pub created : (regions : List Region) (items : List ItemRow) (a b total : ℕ) (names new_names : NameMap) (n : RegionId) (uid gid mode size : ℕ) (name : List ℕ) (now : Region) → IsIndexed (rows_of regions items a b) regions names total → is_lawful_change (rows_of regions items a b) (change.CreateRegion n uid gid mode size name) ≡ true → now.row ≡ record { number = n; uid = uid; gid = gid; mode = mode; size = size; name = name } → ((q : List ℕ) → named q now.items ≡ None) → now.room.size ≡ now.row.size → now.room.rooms ≡ [] → ((q : List ℕ) → named q new_names ≡ cond (bytes_eq name q) (Some n.0) (named q names)) → IsIndexed (rows_of (regions ++ now ∷ []) items (n.0 + 1) b) (regions ++ now ∷ []) new_names (total + size)
+pub created : (regions : List Region) (items : List ItemRow) (a b total : ℕ) (names new_names : NameMap) (n : RegionId) (uid gid mode size : ℕ) (name : List ℕ) (now : Region) → IsIndexed (rows_of regions items a b) regions names total → is_lawful_change (rows_of regions items a b) (change.CreateRegion n uid gid mode size name) ≡ true → now.row ≡ record { number = n; uid = uid; gid = gid; mode = mode; size = size; name = name } → ((q : List ℕ) → named q now.items ≡ None) → now.room.size ≡ now.row.size → Holds now.room [] → ((q : List ℕ) → named q new_names ≡ cond (bytes_eq name q) (Some n.0) (named q names)) → IsIndexed (rows_of (regions ++ now ∷ []) items (n.0 + 1) b) (regions ++ now ∷ []) new_names (total + size)
 created regions items a b total names new_names n uid gid mode size name now h ok row nothing same_size rooms added =
     let rows = rows_of regions items a b in
     let new = rows_of (regions ++ now ∷ []) items (n.0 + 1) b in
@@ -139,6 +140,6 @@ created regions items a b total names new_names n uid gid mode size name now h o
           (λ k d lt. index_kept rows new (get_or regions k d) refl (h.indexes k d lt))
           (record {
             names = λ q. nothing q ∙ sym (ap (λ l. option_map item_number (find (λ r. bytes_eq r.name q) l)) empty);
-            space = record { same_size = same_size; same_rooms = λ test. ap (list_all test) rooms ∙ sym (ap (list_all (λ item. test (room_of item))) empty) };
+            ranges = record { rooms = []; held = rooms; space = record { same_size = same_size; same_rooms = λ test. sym (ap (list_all (λ item. test (room_of item))) empty) } };
           });
     }

@@ -17,30 +17,46 @@ use Rattle.fam_model.specs.Rows.{IsLawful, region_number, item_number, items_in}
 use Rattle.fam_rows.proofs.Places.{rises}
 use Rattle.region_alloc.specs.declared.extent.Extent.{Extent}
 use Rattle.region_alloc.specs.Items.{room_of}
-use Rattle.region_alloc.specs.Space.{room_at, with_room}
+use Rattle.region_alloc.specs.Gaps.{FreeRanges, Holds, space_with}
+use Rattle.region_alloc.specs.Space.{has_place, has_room, room_at, with_room, without_room}
 use Rattle.fam_directory.specs.declared.region.Region.{Region}
 use Rattle.fam_directory.specs.Index.{IsIndexOf, IsIndexed, number_of, rows_of}
 use Rattle.fam_directory.specs.Names.{NameEntry, NameMap, named}
 use Rattle.fam_directory.proofs.Lookups.{map_map, find_map, numbers_rise}
 use Rattle.fam_directory.proofs.Moves.{map_filter, list_all_map, map_set_same, set_all, changed_is, number_in}
 
+-- what becomes of the rooms that are held: they stay, or there is one more, or one less
+
+abbrev pub RoomsStay : FreeRanges → FreeRanges → Type 0
+RoomsStay old now = (rooms : List Extent) → Holds old rooms → Holds now rooms
+
+abbrev pub RoomTaken : FreeRanges → FreeRanges → ℕ → ℕ → Type 0
+RoomTaken old now base n = (rooms : List Extent) → Holds old rooms → has_place (space_with old rooms) n base ≡ true → Holds now (with_room base n rooms)
+
+abbrev pub RoomFreed : FreeRanges → FreeRanges → ℕ → ℕ → Type 0
+RoomFreed old now base n = (rooms : List Extent) → Holds old rooms → has_room base n rooms ≡ true → Holds now (without_room base rooms)
+
 -- one region
 
 -- its items stay, and so do its names, its size and its rooms
-pub index_stays : (rows new : Rows) (old now : Region) → number_of now ≡ number_of old → ((name : List ℕ) → named name now.items ≡ named name old.items) → now.room.size ≡ now.row.size → now.room.rooms ≡ old.room.rooms → items_in rows (number_of old) ≡ items_in new (number_of old) → IsIndexOf rows old → IsIndexOf new now
+pub index_stays : (rows new : Rows) (old now : Region) → number_of now ≡ number_of old → ((name : List ℕ) → named name now.items ≡ named name old.items) → now.room.size ≡ now.row.size → RoomsStay old.room now.room → items_in rows (number_of old) ≡ items_in new (number_of old) → IsIndexOf rows old → IsIndexOf new now
 index_stays rows new old now number names same_size rooms items h =
     let path : items_in rows (number_of old) ≡ items_in new (number_of now) = items ∙ ap (items_in new) (sym number) in
     record {
       names = λ name. names name ∙ h.names name ∙ ap (λ l. option_map item_number (find (λ row. bytes_eq row.name name) l)) path;
-      space = record {
-        same_size = same_size;
-        same_rooms = λ test. ap (list_all test) rooms ∙ h.space.same_rooms test ∙ ap (list_all (λ item. test (room_of item))) path;
+      ranges = record {
+        rooms = h.ranges.rooms;
+        held = rooms h.ranges.rooms h.ranges.held;
+        space = record {
+          same_size = same_size;
+          same_rooms = λ test. h.ranges.space.same_rooms test ∙ ap (list_all (λ item. test (room_of item))) path;
+        };
       };
     }
 
 -- a region that is not touched, where its items stay
 pub index_kept : (rows new : Rows) (region : Region) → items_in rows (number_of region) ≡ items_in new (number_of region) → IsIndexOf rows region → IsIndexOf new region
-index_kept rows new region items h = index_stays rows new region region refl (λ name. refl) h.space.same_size refl items h
+index_kept rows new region items h = index_stays rows new region region refl (λ name. refl) h.ranges.space.same_size (λ rooms held. held) items h
 
 -- names and numbers alone
 
@@ -62,7 +78,7 @@ row_changed regions items a b n k now f lawful lt is row =
     ∙ ap (set (map (λ (r : Region). r.row) regions) k) (row ∙ ap f (sym row_at))
     ∙ sym (changed_is region_number n k f (map (λ (r : Region). r.row) regions) now.row (rises region_number (map (λ (r : Region). r.row) regions) lawful.region_numbers_rise) (omega (arith, length-map regions (λ (r : Region). r.row))) (ap region_number row_at ∙ is))
 
-pub replaced : (regions : List Region) (items : List ItemRow) (a b n k total new_total : ℕ) (names : NameMap) (now : Region) → IsIndexed (rows_of regions items a b) regions names total → k < length regions → number_of (get_or regions k now) ≡ n → number_of now ≡ number_of (get_or regions k now) → now.row.name ≡ (get_or regions k now).row.name → ((name : List ℕ) → named name now.items ≡ named name (get_or regions k now).items) → now.room.size ≡ now.row.size → now.room.rooms ≡ (get_or regions k now).room.rooms → new_total + (get_or regions k now).row.size ≡ total + now.row.size → IsLawful (rows_of (set regions k now) items a b) → IsIndexed (rows_of (set regions k now) items a b) (set regions k now) names new_total
+pub replaced : (regions : List Region) (items : List ItemRow) (a b n k total new_total : ℕ) (names : NameMap) (now : Region) → IsIndexed (rows_of regions items a b) regions names total → k < length regions → number_of (get_or regions k now) ≡ n → number_of now ≡ number_of (get_or regions k now) → now.row.name ≡ (get_or regions k now).row.name → ((name : List ℕ) → named name now.items ≡ named name (get_or regions k now).items) → now.room.size ≡ now.row.size → RoomsStay (get_or regions k now).room now.room → new_total + (get_or regions k now).row.size ≡ total + now.row.size → IsLawful (rows_of (set regions k now) items a b) → IsIndexed (rows_of (set regions k now) items a b) (set regions k now) names new_total
 replaced regions items a b n k total new_total names now h lt is number name found size rooms sum lawful =
     let old = get_or regions k now in
     let new = rows_of (set regions k now) items a b in
@@ -99,10 +115,14 @@ index_bare rows new region same h =
     let entries : map entry (items_in rows n) ≡ map entry (items_in new n) = sym (map_map bare entry (items_in rows n)) ∙ ap (map entry) alike ∙ map_map bare entry (items_in new n) in
     record {
       names = λ name. h.names name ∙ number_in_alike (λ (x : ItemRow). x.name) item_number name (items_in rows n) (items_in new n) entries;
-      space = record {
-        same_size = h.space.same_size;
-        same_rooms = λ test. h.space.same_rooms test
-            ∙ sym (list_all_map bare (λ item. test (room_of item)) (items_in rows n)) ∙ ap (list_all (λ item. test (room_of item))) alike ∙ list_all_map bare (λ item. test (room_of item)) (items_in new n);
+      ranges = record {
+        rooms = h.ranges.rooms;
+        held = h.ranges.held;
+        space = record {
+          same_size = h.ranges.space.same_size;
+          same_rooms = λ test. h.ranges.space.same_rooms test
+              ∙ sym (list_all_map bare (λ item. test (room_of item)) (items_in rows n)) ∙ ap (list_all (λ item. test (room_of item))) alike ∙ list_all_map bare (λ item. test (room_of item)) (items_in new n);
+        };
       };
     }
 

@@ -4,7 +4,7 @@ use mathlib.Core.Bool.{not, ◌&&◌, ◌||◌}
 use Rattle.std.specs.List.{All, AllPairs, filter, find, list_all}
 use Rattle.std.specs.Option.{option_map}
 use Rattle.std.specs.Str.{bytes_eq}
-use Rattle.std.proofs.lemmas.Bool.{cases_eq, cases_lt, eqb-true, eq-eqb, ne_eqb, not_from_false, leb-true, or_cases}
+use Rattle.std.proofs.lemmas.Bool.{cases_eq, cases_lt, eqb-true, eq-eqb, ne_eqb, not_from_false, leb-true, or_cases, and_from}
 use Rattle.std.proofs.lemmas.List.{get_or_default}
 use Rattle.std.proofs.lemmas.List.Elements.{All-filter, filter_passes}
 use Rattle.std.proofs.lemmas.List.Folds.{list_all-append}
@@ -12,31 +12,33 @@ use Rattle.fam_base.specs.declared.naming.RegionId.{RegionId}
 use Rattle.fam_model.specs.declared.rows.ItemRow.{ItemRow}
 use Rattle.fam_model.specs.declared.rows.RegionRow.{RegionRow}
 use Rattle.fam_model.specs.declared.rows.Rows.{Rows}
-use Rattle.fam_model.specs.Rows.{IsLawful, region_number, item_number, item_named, items_in, room, room_end, is_beside}
+use Rattle.fam_model.specs.Rows.{IsLawful, region_number, item_number, item_named, items_in, room, room_end, is_beside, fits}
 use Rattle.fam_rows.proofs.Places.{rises}
 use Rattle.region_alloc.specs.declared.extent.Extent.{Extent}
 use Rattle.region_alloc.specs.Items.{room_of}
+use Rattle.region_alloc.specs.Gaps.{space_with}
 use Rattle.region_alloc.specs.Space.{has_room, with_room, without_room}
+use Rattle.region_alloc.proofs.Bases.{place_is_base}
 use Rattle.fam_directory.specs.declared.region.Region.{Region}
 use Rattle.fam_directory.specs.Index.{IsIndexOf, number_of}
 use Rattle.fam_directory.specs.Names.{named}
-use Rattle.fam_directory.proofs.Indexes.{index_kept, grown_elsewhere, items_here, with_room_all}
+use Rattle.fam_directory.proofs.Indexes.{RoomTaken, RoomFreed, index_kept, grown_elsewhere, items_here, with_room_all}
 use Rattle.fam_directory.proofs.Moves.{filter_swap, filter_kept, filter_alike, list_all_filter, list_all_weaker, some_passes, one_passes, set_all, name_added, name_removed, others_differ}
 
 -- a new item in the index of its region
 
 -- no room begins where the new one does
-free_base : (rows : Rows) (region : Region) (n base : ℕ) → IsIndexOf rows region → list_all (is_beside n base) (items_in rows (number_of region)) ≡ true → list_all (λ r. not (eqb r.base base)) region.room.rooms ≡ true
+free_base : (rows : Rows) (region : Region) (n base : ℕ) (h : IsIndexOf rows region) → list_all (is_beside n base) (items_in rows (number_of region)) ≡ true → list_all (λ r. not (eqb r.base base)) h.ranges.rooms ≡ true
 free_base rows region n base h beside =
-    h.space.same_rooms (λ r. not (eqb r.base base))
+    h.ranges.space.same_rooms (λ r. not (eqb r.base base))
     ∙ list_all_weaker (is_beside n base) (λ item. not (eqb item.base base)) (items_in rows (number_of region)) (λ item is. not_from_false (eqb item.base base) (ne_eqb item.base base (λ same.
     elim (or_cases (leb (base + room n) item.base) (leb (room_end item) base) is) [
       | inl before ↦ absurd (let le = leb-true _ _ before in omega (arith, le, same))
       | inr behind ↦ absurd (let le = leb-true _ _ behind in omega (arith, le, same))
     ]))) beside
 
-pub index_grown : (rows new : Rows) (old now : Region) (item : ItemRow) → new.items ≡ rows.items ++ item ∷ [] → number_of old ≡ item.region.0 → item_named rows item.region.0 item.name ≡ None → list_all (is_beside item.size item.base) (items_in rows (number_of old)) ≡ true → now.row ≡ old.row → ((q : List ℕ) → named q now.items ≡ cond (bytes_eq item.name q) (Some item.number.0) (named q old.items)) → now.room.size ≡ old.room.size → now.room.rooms ≡ with_room item.base item.size old.room.rooms → IsIndexOf rows old → IsIndexOf new now
-index_grown rows new old now item grown here unnamed beside row added size rooms h =
+pub index_grown : (rows new : Rows) (old now : Region) (item : ItemRow) → new.items ≡ rows.items ++ item ∷ [] → number_of old ≡ item.region.0 → item_named rows item.region.0 item.name ≡ None → fits rows old.row item.size item.base ≡ true → list_all (is_beside item.size item.base) (items_in rows (number_of old)) ≡ true → now.row ≡ old.row → ((q : List ℕ) → named q now.items ≡ cond (bytes_eq item.name q) (Some item.number.0) (named q old.items)) → now.room.size ≡ old.room.size → RoomTaken old.room now.room item.base item.size → IsIndexOf rows old → IsIndexOf new now
+index_grown rows new old now item grown here unnamed fitting beside row added size rooms h =
     let n = number_of old in
     let n_is : number_of now ≡ number_of old = ap region_number row in
     let list : items_in rows n ++ item ∷ [] ≡ items_in new (number_of now) =
@@ -46,13 +48,17 @@ index_grown rows new old now item grown here unnamed beside row added size rooms
       names = λ q. added q ∙ ap (cond (bytes_eq item.name q) (Some item.number.0)) (h.names q)
           ∙ name_added (λ (x : ItemRow). x.name) item_number item (items_in rows n) q absent
           ∙ ap (λ l. option_map item_number (find (λ x. bytes_eq x.name q) l)) list;
-      space = record {
-        same_size = size ∙ h.space.same_size ∙ sym (ap (λ (r : RegionRow). r.size) row);
-        same_rooms = λ test. ap (list_all test) rooms ∙ with_room_all test item.base item.size old.room.rooms (free_base rows old item.size item.base h beside)
-            ∙ ap (λ t. t && test (room_of item)) (h.space.same_rooms test)
-            ∙ and_last (list_all (λ (x : ItemRow). test (room_of x)) (items_in rows n)) (test (room_of item))
-            ∙ sym (list_all-append (λ (x : ItemRow). test (room_of x)) (items_in rows n) (item ∷ []))
-            ∙ ap (list_all (λ (x : ItemRow). test (room_of x))) list;
+      ranges = record {
+        rooms = with_room item.base item.size h.ranges.rooms;
+        held = rooms h.ranges.rooms h.ranges.held (place_is_base rows old.row (space_with old.room h.ranges.rooms) item.size item.base h.ranges.space ∙ fitting);
+        space = record {
+          same_size = size ∙ h.ranges.space.same_size ∙ sym (ap (λ (r : RegionRow). r.size) row);
+          same_rooms = λ test. with_room_all test item.base item.size h.ranges.rooms (free_base rows old item.size item.base h beside)
+              ∙ ap (λ t. t && test (room_of item)) (h.ranges.space.same_rooms test)
+              ∙ and_last (list_all (λ (x : ItemRow). test (room_of x)) (items_in rows n)) (test (room_of item))
+              ∙ sym (list_all-append (λ (x : ItemRow). test (room_of x)) (items_in rows n) (item ∷ []))
+              ∙ ap (list_all (λ (x : ItemRow). test (room_of x))) list;
+        };
       };
     } where
       and_last : (a b : Bool) → (a && b) ≡ (a && (b && true))
@@ -114,14 +120,15 @@ others_here rows x all k d lt =
     ]
 
 -- the room at its base is there
-pub room_is_there : (rows : Rows) (region : Region) (k : ℕ) (x : ItemRow) → IsIndexOf rows region → number_of region ≡ x.region.0 → k < length rows.items → x ≡ get_or rows.items k x → has_room x.base region.room.rooms ≡ true
+pub room_is_there : (rows : Rows) (region : Region) (k : ℕ) (x : ItemRow) (h : IsIndexOf rows region) → number_of region ≡ x.region.0 → k < length rows.items → x ≡ get_or rows.items k x → has_room x.base x.size h.ranges.rooms ≡ true
 room_is_there rows region k x h here lt is =
-    some_passes (λ (r : Extent). eqb r.base x.base) region.room.rooms
-    ∙ ap not (h.space.same_rooms (λ r. not (eqb r.base x.base)))
-    ∙ sym (some_passes (λ (y : ItemRow). eqb y.base x.base) (items_in rows (number_of region)))
-    ∙ one_passes (λ (y : ItemRow). eqb y.base x.base) (λ (y : ItemRow). eqb y.region.0 (number_of region)) k rows.items x lt (eq-eqb _ _ (ap (λ (y : ItemRow). y.region.0) (sym is) ∙ sym here)) (eq-eqb _ _ (ap (λ (y : ItemRow). y.base) (sym is)))
+    some_passes (λ (r : Extent). eqb r.base x.base && eqb r.length (room x.size)) h.ranges.rooms
+    ∙ ap not (h.ranges.space.same_rooms (λ r. not (eqb r.base x.base && eqb r.length (room x.size))))
+    ∙ sym (some_passes (λ (y : ItemRow). eqb y.base x.base && eqb (room y.size) (room x.size)) (items_in rows (number_of region)))
+    ∙ one_passes (λ (y : ItemRow). eqb y.base x.base && eqb (room y.size) (room x.size)) (λ (y : ItemRow). eqb y.region.0 (number_of region)) k rows.items x lt (eq-eqb _ _ (ap (λ (y : ItemRow). y.region.0) (sym is) ∙ sym here))
+    (and_from (eqb (get_or rows.items k x).base x.base) _ (eq-eqb _ _ (ap (λ (y : ItemRow). y.base) (sym is))) (eq-eqb _ _ (ap (λ (y : ItemRow). room y.size) (sym is))))
 
-pub index_shrunk : (rows new : Rows) (old now : Region) (k : ℕ) (x : ItemRow) → IsLawful rows → k < length rows.items → x ≡ get_or rows.items k x → new.items ≡ filter (λ y. not (eqb (item_number y) (item_number x))) rows.items → number_of old ≡ x.region.0 → now.row ≡ old.row → ((q : List ℕ) → named q now.items ≡ cond (bytes_eq x.name q) None (named q old.items)) → now.room.size ≡ old.room.size → now.room.rooms ≡ without_room x.base old.room.rooms → IsIndexOf rows old → IsIndexOf new now
+pub index_shrunk : (rows new : Rows) (old now : Region) (k : ℕ) (x : ItemRow) → IsLawful rows → k < length rows.items → x ≡ get_or rows.items k x → new.items ≡ filter (λ y. not (eqb (item_number y) (item_number x))) rows.items → number_of old ≡ x.region.0 → now.row ≡ old.row → ((q : List ℕ) → named q now.items ≡ cond (bytes_eq x.name q) None (named q old.items)) → now.room.size ≡ old.room.size → RoomFreed old.room now.room x.base x.size → IsIndexOf rows old → IsIndexOf new now
 index_shrunk rows new old now k x lawful lt is shrunk here row gone size rooms h =
     let n = x.region.0 in
     let xs = items_in rows n in
@@ -141,15 +148,18 @@ index_shrunk rows new old now k x lawful lt is shrunk here row gone size rooms h
       names = λ q. gone q ∙ ap (cond (bytes_eq x.name q) None) (h.names q ∙ ap (λ m. option_map item_number (item_named rows m q)) here)
           ∙ name_removed (λ (y : ItemRow). y.name) item_number (item_number x) x xs q refl (λ j d within. elim (others j d within) [ inl it ↦ inl it | inr other ↦ inr (other.0, other.1.0) ])
           ∙ ap (λ l. option_map item_number (find (λ y. bytes_eq y.name q) l)) list;
-      space = record {
-        same_size = size ∙ h.space.same_size ∙ sym (ap (λ (r : RegionRow). r.size) row);
-        same_rooms = λ test.
-            ap (list_all test) rooms
-            ∙ list_all_filter test (λ (r : Extent). not (eqb r.base x.base)) old.room.rooms
-            ∙ h.space.same_rooms (λ r. not (not (eqb r.base x.base)) || test r)
-            ∙ ap (λ m. list_all (λ (y : ItemRow). not (not (eqb y.base x.base)) || test (room_of y)) (items_in rows m)) here
-            ∙ sym (list_all_filter (λ (y : ItemRow). test (room_of y)) away xs)
-            ∙ ap (list_all (λ (y : ItemRow). test (room_of y))) (alike ∙ list);
+      ranges = record {
+        rooms = without_room x.base h.ranges.rooms;
+        held = rooms h.ranges.rooms h.ranges.held (room_is_there rows old k x h here lt is);
+        space = record {
+          same_size = size ∙ h.ranges.space.same_size ∙ sym (ap (λ (r : RegionRow). r.size) row);
+          same_rooms = λ test.
+              list_all_filter test (λ (r : Extent). not (eqb r.base x.base)) h.ranges.rooms
+              ∙ h.ranges.space.same_rooms (λ r. not (not (eqb r.base x.base)) || test r)
+              ∙ ap (λ m. list_all (λ (y : ItemRow). not (not (eqb y.base x.base)) || test (room_of y)) (items_in rows m)) here
+              ∙ sym (list_all_filter (λ (y : ItemRow). test (room_of y)) away xs)
+              ∙ ap (list_all (λ (y : ItemRow). test (room_of y))) (alike ∙ list);
+        };
       };
     }
 

@@ -21,12 +21,15 @@ use Rattle.fam_rows.proofs.Keeping.{keeps_law}
 use Rattle.fam_rows.proofs.Places.{rises}
 use Rattle.fam_rows.proofs.Standing.{three_parts, value_tested}
 use Rattle.region_alloc.proofs.Bases.{cut_is_cut}
-use Rattle.region_alloc.specs.Space.{has_room, is_cut_at, without_room}
+use Rattle.region_alloc.specs.declared.extent.Extent.{Extent}
+use Rattle.region_alloc.specs.Gaps.{Holds, space_with}
+use Rattle.region_alloc.specs.Space.{has_room, is_cut_at}
 use Rattle.fam_directory.specs.declared.region.Region.{Region}
 use Rattle.fam_directory.specs.Index.{IsIndexOf, IsIndexed, number_of, rows_of}
 use Rattle.fam_directory.specs.Names.{NameMap, named}
 use Rattle.fam_directory.proofs.Changed.{has_place_there, number_at, item_at, mode_rows, mode_changed, size_rows, size_changed, item_rows, item_changed}
 use Rattle.fam_directory.proofs.Destroyed.{destroyed, destroyed_rows, outside}
+use Rattle.fam_directory.proofs.Indexes.{RoomsStay, RoomFreed}
 use Rattle.fam_directory.proofs.Lookups.{numbers_rise, at_place, region_of_is}
 use Rattle.fam_directory.proofs.Moves.{map_set_same, removed_is, sum_removed}
 use Rattle.fam_directory.proofs.Placed.{index_shrunk, indexes_shrunk, room_is_there}
@@ -114,7 +117,7 @@ item_step regions items a b k total mode names n x h ok at lt is =
 
 -- sizes
 
-pub size_step : (regions : List Region) (items : List ItemRow) (a b k total size : ℕ) (names : NameMap) (n : RegionId) (x now : Region) → IsIndexed (rows_of regions items a b) regions names total → is_lawful_change (rows_of regions items a b) (change.ResizeRegion n size) ≡ true → place_of number_of n.0 regions ≡ Some k → k < length regions → x ≡ get_or regions k x → now.row ≡ record x.row { size = size } → now.items ≡ x.items → now.room.size ≡ size → now.room.rooms ≡ x.room.rooms →
+pub size_step : (regions : List Region) (items : List ItemRow) (a b k total size : ℕ) (names : NameMap) (n : RegionId) (x now : Region) → IsIndexed (rows_of regions items a b) regions names total → is_lawful_change (rows_of regions items a b) (change.ResizeRegion n size) ≡ true → place_of number_of n.0 regions ≡ Some k → k < length regions → x ≡ get_or regions k x → now.row ≡ record x.row { size = size } → now.items ≡ x.items → now.room.size ≡ size → RoomsStay x.room now.room →
     IsIndexed (rows_of (set regions k now) items a b) (set regions k now) names (total - x.row.size + size)
     × (rows_of (set regions k now) items a b ≡ after (rows_of regions items a b) (change.ResizeRegion n size))
 size_step regions items a b k total size names n x now h ok at lt is row found space rooms =
@@ -123,11 +126,11 @@ size_step regions items a b k total size names n x now h ok at lt is row found s
     let row_is : now.row ≡ record (get_or regions k now).row { size = size } = row ∙ sym (ap (λ (r : Region). let s : RegionRow = record r.row { size = size } in s) old) in
     let within = size_within regions items a b k total names x h lt is in
     let same = ap (λ (r : Region). r.row.size) old in (
-      size_changed regions items a b k total (total - x.row.size + size) size names n now h ok lt number row_is (found ∙ sym (ap (λ (r : Region). r.items) old)) space (rooms ∙ sym (ap (λ (r : Region). r.room.rooms) old)) (omega (arith, within, same)),
+      size_changed regions items a b k total (total - x.row.size + size) size names n now h ok lt number row_is (found ∙ sym (ap (λ (r : Region). r.items) old)) space (λ l held. rooms l (subst (λ (r : Region). Holds r.room l) old held)) (omega (arith, within, same)),
       size_rows regions items a b k size n now h.lawful lt number row_is,
     )
 
-pub size_fits : (regions : List Region) (items : List ItemRow) (a b k total size : ℕ) (names : NameMap) (n : RegionId) (x : Region) → IsIndexed (rows_of regions items a b) regions names total → is_lawful_change (rows_of regions items a b) (change.ResizeRegion n size) ≡ true → place_of number_of n.0 regions ≡ Some k → k < length regions → x ≡ get_or regions k x → (size ≤ max_region_size) × (is_cut_at size x.room.rooms ≡ false)
+pub size_fits : (regions : List Region) (items : List ItemRow) (a b k total size : ℕ) (names : NameMap) (n : RegionId) (x : Region) → IsIndexed (rows_of regions items a b) regions names total → is_lawful_change (rows_of regions items a b) (change.ResizeRegion n size) ≡ true → place_of number_of n.0 regions ≡ Some k → k < length regions → x ≡ get_or regions k x → (size ≤ max_region_size) × (rooms : List Extent) × Holds x.room rooms × (is_cut_at size rooms ≡ false)
 size_fits regions items a b k total size names n x h ok at lt is =
     let rows = rows_of regions items a b in
     let parts = resize_parts rows size n ok in
@@ -135,7 +138,7 @@ size_fits regions items a b k total size names n x h ok at lt is =
     let same : there.0 ≡ x.row = cc (sym there.1 ∙ row_there regions items a b n.0 k x at lt is) in
     let tests = and_parts (not (cuts_item rows there.0 size)) (leb (total_size rows - there.0.size + size) max_total_size) there.2 in
     let index = subst (IsIndexOf rows) (sym is) (h.indexes k x lt) in
-    (parts.0, cut_is_cut rows x.row x.room size index.space ∙ ap (λ (r : RegionRow). cuts_item rows r size) (sym same) ∙ not-true (cuts_item rows there.0 size) tests.0)
+    (parts.0, index.ranges.rooms, index.ranges.held, cut_is_cut rows x.row (space_with x.room index.ranges.rooms) size index.ranges.space ∙ ap (λ (r : RegionRow). cuts_item rows r size) (sym same) ∙ not-true (cuts_item rows there.0 size) tests.0)
 
 -- a region goes
 
@@ -155,11 +158,12 @@ row_region_there regions items a b k x lawful lt is =
     let inside = subst (λ (y : ItemRow). (r : RegionRow) × (region_of (rows_of regions items a b) y.region.0 ≡ Some r)) (sym is) (let h = (lawful.items k x lt).inside in (h.0, h.1)) in
     has_place_there regions items a b x.region.0 (λ row. true) (ap (λ o. is_some_and o (λ row. true)) inside.1)
 
-pub free_room : (regions : List Region) (items : List ItemRow) (a b j k total : ℕ) (names : NameMap) (x : ItemRow) (r : Region) → IsIndexed (rows_of regions items a b) regions names total → j < length items → x ≡ get_or items j x → place_of number_of x.region.0 regions ≡ Some k → k < length regions → r ≡ get_or regions k r → has_room x.base r.room.rooms ≡ true
+pub free_room : (regions : List Region) (items : List ItemRow) (a b j k total : ℕ) (names : NameMap) (x : ItemRow) (r : Region) → IsIndexed (rows_of regions items a b) regions names total → j < length items → x ≡ get_or items j x → place_of number_of x.region.0 regions ≡ Some k → k < length regions → r ≡ get_or regions k r → (rooms : List Extent) × Holds r.room rooms × (has_room x.base x.size rooms ≡ true)
 free_room regions items a b j k total names x r h within read at lt is =
-    room_is_there (rows_of regions items a b) r j x (subst (IsIndexOf (rows_of regions items a b)) (sym is) (h.indexes k r lt)) (ap number_of is ∙ number_at regions x.region.0 k r at lt) within read
+    let index = subst (IsIndexOf (rows_of regions items a b)) (sym is) (h.indexes k r lt) in
+    (index.ranges.rooms, index.ranges.held, room_is_there (rows_of regions items a b) r j x index (ap number_of is ∙ number_at regions x.region.0 k r at lt) within read)
 
-pub drop_step : (regions : List Region) (items left : List ItemRow) (a b j k total : ℕ) (names : NameMap) (n : ItemId) (x : ItemRow) (r now : Region) → IsIndexed (rows_of regions items a b) regions names total → is_lawful_change (rows_of regions items a b) (change.Deallocate n) ≡ true → place_of item_number n.0 items ≡ Some j → j < length items → x ≡ get_or items j x → left ≡ remove items j → place_of number_of x.region.0 regions ≡ Some k → k < length regions → r ≡ get_or regions k r → now.row ≡ r.row → ((q : List ℕ) → named q now.items ≡ cond (bytes_eq x.name q) None (named q r.items)) → now.room.size ≡ r.room.size → now.room.rooms ≡ without_room x.base r.room.rooms →
+pub drop_step : (regions : List Region) (items left : List ItemRow) (a b j k total : ℕ) (names : NameMap) (n : ItemId) (x : ItemRow) (r now : Region) → IsIndexed (rows_of regions items a b) regions names total → is_lawful_change (rows_of regions items a b) (change.Deallocate n) ≡ true → place_of item_number n.0 items ≡ Some j → j < length items → x ≡ get_or items j x → left ≡ remove items j → place_of number_of x.region.0 regions ≡ Some k → k < length regions → r ≡ get_or regions k r → now.row ≡ r.row → ((q : List ℕ) → named q now.items ≡ cond (bytes_eq x.name q) None (named q r.items)) → now.room.size ≡ r.room.size → RoomFreed r.room now.room x.base x.size →
     IsIndexed (rows_of (set regions k now) left a b) (set regions k now) names total
     × (rows_of (set regions k now) left a b ≡ after (rows_of regions items a b) (change.Deallocate n))
 drop_step regions items left a b j k total names n x r now h ok found within read cut at lt is row gone space rooms =

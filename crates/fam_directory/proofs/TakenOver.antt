@@ -16,6 +16,7 @@ use Rattle.fam_model.specs.Lists.{find_number, is_some_and}
 use Rattle.fam_model.specs.Rows.{IsLawful, AreApart, item_number, region_number, region_of, item_named, items_in, room, room_end, is_beside, fits}
 use Rattle.fam_rows.proofs.Places.{rises}
 use Rattle.fam_rows.proofs.Standing.{tested}
+use Rattle.region_alloc.specs.Gaps.{Holds}
 use Rattle.fam_directory.specs.declared.region.Region.{Region}
 use Rattle.fam_directory.specs.Index.{IsIndexOf, number_of, rows_of, named_in, without_items}
 use Rattle.fam_directory.specs.Names.{NameMap, named}
@@ -52,10 +53,10 @@ pub all_named : (rows : List RegionRow) (k : ℕ) (names : NameMap) → length r
 all_named rows k names le so_far q = so_far q ∙ ap (named_in q) (take_all k rows le)
 
 -- a region with no items
-pub empty_index : (rows : Rows) (region : Region) → ((q : List ℕ) → named q region.items ≡ None) → region.room.size ≡ region.row.size → region.room.rooms ≡ [] → IsIndexOf (without_items rows) region
+pub empty_index : (rows : Rows) (region : Region) → ((q : List ℕ) → named q region.items ≡ None) → region.room.size ≡ region.row.size → Holds region.room [] → IsIndexOf (without_items rows) region
 empty_index rows region names size rooms = record {
   names = names;
-  space = record { same_size = size; same_rooms = λ test. ap (list_all test) rooms };
+  ranges = record { rooms = []; held = rooms; space = record { same_size = size; same_rooms = λ test. refl } };
 }
 
 -- items

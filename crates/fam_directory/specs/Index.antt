@@ -14,7 +14,7 @@ use Rattle.fam_directory.specs.declared.region.Region.{Region}
 use Rattle.fam_directory.specs.declared.region.Coming.{Coming}
 use Rattle.fam_directory.specs.Names.{NameMap, named}
 use Rattle.fam_directory.specs.Slots.{ItemList}
-use Rattle.region_alloc.specs.Items.{IsSpaceOf}
+use Rattle.region_alloc.specs.Items.{AreRangesOf}
 
 -- the name of a new row: that of an item in a region, or else of a region
 pub record NewName : Type 0 where
@@ -60,7 +60,7 @@ number_of region = region_number region.row
 -- the index of a region: its items by their names, and their room
 pub record IsIndexOf (rows : Rows) (region : Region) : Type 0 where
   pub names : (name : List ℕ) → named name region.items ≡ option_map item_number (item_named rows (number_of region) name)
-  pub space : IsSpaceOf rows region.row region.room
+  pub ranges : AreRangesOf rows region.row region.room
 
 -- the region of a number with its index, if there is such a region; else no item lies there
 abbrev pub IsEntry : Rows → ℕ → Option Region → Type 0

@@ -174,7 +174,7 @@ impl Directory {
             return;
         };
         let place = place_there(self.regions.as_slice(), row.region);
-        self.regions[place].remove(row.name.as_slice(), row.base);
+        self.regions[place].remove(row.name.as_slice(), row.base, row.size);
     }
 
     /// Gives a region another size.

@@ -47,6 +47,13 @@ impl Directory {
         self.alloc
     }
 
+    /// The rows are lawful.
+    pub fn rows_are_lawful(&self)
+        ensures { IsLawful self.now.rows }
+    {
+        let _items = &self.items;
+    }
+
     /// A region with its index.
     fn entry(&self, number: RegionId) -> Option<&Region>
         ensures entry { IsEntry self.now.rows number.0 (option_copied result) }
@@ -59,7 +66,7 @@ impl Directory {
     }
 
     /// The row of a region.
-    pub(crate) fn region(&self, number: RegionId) -> Option<&RegionRow>
+    pub fn region(&self, number: RegionId) -> Option<&RegionRow>
         ensures { option_copied result ≡ row_words.region_of self.now.rows number.0 }
     {
         match self.entry(number) {
@@ -69,7 +76,7 @@ impl Directory {
     }
 
     /// The row of an item.
-    pub(crate) fn item(&self, number: ItemId) -> Option<&ItemRow>
+    pub fn item(&self, number: ItemId) -> Option<&ItemRow>
         ensures { option_copied result ≡ row_words.item_of self.now.rows number.0 }
     {
         self.items.find(number)
@@ -95,7 +102,7 @@ impl Directory {
     }
 
     /// The row of the region of a name.
-    pub(crate) fn region_named(&self, name: &[u8]) -> Option<&RegionRow>
+    pub fn region_named(&self, name: &[u8]) -> Option<&RegionRow>
         ensures { option_copied result ≡ row_words.region_named self.now.rows name.now }
     {
         match self.number_named(name) {
@@ -105,7 +112,7 @@ impl Directory {
     }
 
     /// The row of the item of a name in a region.
-    pub(crate) fn item_named(&self, region: RegionId, name: &[u8]) -> Option<&ItemRow>
+    pub fn item_named(&self, region: RegionId, name: &[u8]) -> Option<&ItemRow>
         ensures { option_copied result ≡ row_words.item_named self.now.rows region.0 name.now }
     {
         match self.item_number_named(region, name) {
@@ -115,7 +122,7 @@ impl Directory {
     }
 
     /// The least base at which a new item of `n` bytes fits in a region.
-    pub(crate) fn least_base(&self, region: RegionId, n: u64) -> Option<u64>
+    pub fn least_base(&self, region: RegionId, n: u64) -> Option<u64>
         ensures { result ≡ least_in self.now.rows region.0 n }
     {
         match self.entry(region) {
@@ -125,7 +132,7 @@ impl Directory {
     }
 
     /// Whether `n` bytes fit nowhere in a region that is there.
-    pub(crate) fn has_no_gap(&self, region: RegionId, n: u64) -> bool
+    pub fn has_no_gap(&self, region: RegionId, n: u64) -> bool
         ensures { result ≡ is_some_and (row_words.region_of self.now.rows region.0) (λ row. row_words.no_gap self.now.rows row n) }
     {
         match self.entry(region) {
@@ -134,8 +141,18 @@ impl Directory {
         }
     }
 
+    /// Whether `n` bytes may lie at a base of a region that is there.
+    pub fn fits(&self, region: RegionId, n: u64, base: u64) -> bool
+        ensures { result ≡ is_some_and (row_words.region_of self.now.rows region.0) (λ row. row_words.fits self.now.rows row n base) }
+    {
+        match self.entry(region) {
+            Some(region) => region.room.fits(n, base),
+            None => false,
+        }
+    }
+
     /// Whether some item of a region has room past a size.
-    pub(crate) fn cuts_item(&self, region: RegionId, size: u64) -> bool
+    pub fn cuts_item(&self, region: RegionId, size: u64) -> bool
         ensures { result ≡ is_some_and (row_words.region_of self.now.rows region.0) (λ row. words.cuts_item self.now.rows row size) }
     {
         match self.entry(region) {
@@ -145,35 +162,35 @@ impl Directory {
     }
 
     /// How many regions there are.
-    pub(crate) fn region_count(&self) -> usize
+    pub fn region_count(&self) -> usize
         ensures { result ≡ length self.now.rows.regions }
     {
         self.regions.len()
     }
 
     /// How many items there are.
-    pub(crate) fn item_count(&self) -> usize
+    pub fn item_count(&self) -> usize
         ensures { result ≡ length self.now.rows.items }
     {
         self.items.len()
     }
 
     /// The number of the next region.
-    pub(crate) fn next_region(&self) -> u64
+    pub fn next_region(&self) -> u64
         ensures { result ≡ self.now.rows.next_region }
     {
         self.next_region
     }
 
     /// The number of the next item.
-    pub(crate) fn next_item(&self) -> u64
+    pub fn next_item(&self) -> u64
         ensures { result ≡ self.now.rows.next_item }
     {
         self.items.next()
     }
 
     /// The sizes of all regions together.
-    pub(crate) fn total_size(&self) -> u64
+    pub fn total_size(&self) -> u64
         ensures { result ≡ row_words.total_size self.now.rows }
     {
         self.total

@@ -3,7 +3,7 @@
 ghost use Rattle.std.specs.Prelude.{◌≡◌, ◌<◌, ◌≤◌, true, IfOk, IsTrue};
 ghost use Rattle.fam_base.specs.declared.naming.Who.{Who as AnyWho};
 ghost use Rattle.fam_model.specs.Directory as words;
-ghost use Rattle.fam_model.specs.Directory.{refusal, first_choice};
+ghost use Rattle.fam_model.specs.Directory.{refusal, first_choice, item_info, region_info};
 ghost use Rattle.fam_model.specs.Lawful.{is_lawful_change};
 ghost use Rattle.fam_model.specs.Limits.{nobody};
 ghost use Rattle.fam_model.specs.Rows.{region_of, item_of};
@@ -15,10 +15,77 @@ ghost use Rattle.fam_directory.specs.Answers.{IsFound, IsMade, makes_change, reg
 use crate::copying::{copy_item, copy_region};
 use crate::directory::Directory;
 use fam_base::{Descriptor, FamError, ItemId, NoMemory, RegionId, Sequence, Who, good_name};
-use fam_model::{Change, ItemRow, RegionRow, Request};
+use fam_model::{Change, ItemInfo, ItemRow, RegionInfo, RegionRow, Reply, Request};
 use fam_rows::descriptor;
+use std::alloc::Global;
+
+/// A region's row without its number.
+fn info_of_region(alloc: Global, row: &RegionRow) -> Result<RegionInfo, NoMemory>
+    ensures { IfOk result (λ info. info ≡ region_info row.now) }
+{
+    let name = Sequence::of(alloc, row.name.as_slice())?;
+    Ok(RegionInfo {
+        name,
+        size: row.size,
+        uid: row.uid,
+        gid: row.gid,
+        mode: row.mode,
+    })
+}
+
+/// An item's row without its number.
+fn info_of_item(alloc: Global, row: &ItemRow) -> Result<ItemInfo, NoMemory>
+    ensures { IfOk result (λ info. info ≡ item_info row.now) }
+{
+    let name = Sequence::of(alloc, row.name.as_slice())?;
+    Ok(ItemInfo {
+        name,
+        region: row.region,
+        base: row.base,
+        size: row.size,
+        uid: row.uid,
+        gid: row.gid,
+        mode: row.mode,
+    })
+}
 
 impl Directory {
+    /// The descriptor of the item of that name in the region of that name, if both are there.
+    fn located(&self, name: &[u8], region: &[u8]) -> Option<Descriptor>
+        ensures { result ≡ located_at self.now.rows name.now region.now }
+    {
+        let row = self.region_named(region)?;
+        let item = self.item_named(row.number, name)?;
+        Some(descriptor(item))
+    }
+
+    /// The reply to a look-up or a stat that is not refused; no other request has one.
+    pub fn found(&self, request: &Request) -> Result<Option<Reply>, NoMemory>
+        ensures { IfOk result (λ reply. reply ≡ words.found self.now.rows request.now) }
+    {
+        match request {
+            Request::LookupRegion { name } => match self.region_named(name.as_slice()) {
+                None => Ok(None),
+                Some(row) => Ok(Some(Reply::Region(row.number))),
+            },
+            Request::StatRegion { region } => match self.region(*region) {
+                None => Ok(None),
+                Some(row) => Ok(Some(Reply::RegionStat(info_of_region(self.alloc(), row)?))),
+            },
+            Request::Lookup { name, region } => {
+                match self.located(name.as_slice(), region.as_slice()) {
+                    None => Ok(None),
+                    Some(descriptor) => Ok(Some(Reply::Item(descriptor))),
+                }
+            }
+            Request::Stat { item } => match self.item(*item) {
+                None => Ok(None),
+                Some(row) => Ok(Some(Reply::ItemStat(info_of_item(self.alloc(), row)?))),
+            },
+            _ => Ok(None),
+        }
+    }
+
     /// Where the item of a name lies, in the region of a name.
     pub fn lookup(&self, name: &[u8], region: &[u8]) -> Result<Descriptor, FamError>
         ensures { (who : AnyWho) → IsFound (refusal self.now.rows who (request.Lookup name.now region.now)) (located_at self.now.rows name.now region.now) result }
@@ -103,8 +170,18 @@ impl Directory {
         }
     }
 
+    /// Whether a new item of a request may lie at `base`; other requests have none.
+    pub fn may_lie(&self, request: &Request, base: u64) -> bool
+        ensures { result ≡ words.may_lie self.now.rows request.now base }
+    {
+        match request {
+            Request::Allocate { size, region, .. } => self.fits(*region, *size, base),
+            _ => true,
+        }
+    }
+
     /// The least base at which a new item of a request fits; 0 for other requests.
-    fn first_base(&self, request: &Request) -> Option<u64>
+    pub fn first_base(&self, request: &Request) -> Option<u64>
         ensures { result ≡ words.first_base self.now.rows request.now }
     {
         match request {
@@ -114,7 +191,12 @@ impl Directory {
     }
 
     /// The change that serves a request of this caller, with a new item at `base`; a look-up and a stat have none.
-    fn change_at(&self, who: Who, request: &Request, base: u64) -> Result<Option<Change>, NoMemory>
+    pub fn change_at(
+        &self,
+        who: Who,
+        request: &Request,
+        base: u64,
+    ) -> Result<Option<Change>, NoMemory>
         ensures { IfOk result (λ change. change ≡ words.change_at self.now.rows who request.now base) }
     {
         let change = match request {

@@ -7,6 +7,7 @@ ghost use Rattle.fam_model.specs.Lists.{change_number, drop_number, find_number,
 ghost use Rattle.fam_model.specs.Rows.{item_number};
 ghost use Rattle.fam_directory.specs.Slots.{is_item_of, with_mode, without_numbers};
 
+use crate::listing::ItemRows;
 use crate::names::Names;
 use crate::slots::{Slot, close_slots, empty_slot, row_at, row_copies, set_mode_at};
 use fam_base::{ItemId, Mode, NoMemory, RegionId, Sequence};
@@ -66,6 +67,13 @@ impl Items {
         ensures { option_copied result ≡ find_number item_number number.0 self.now.rows }
     {
         row_at(self.slots.as_slice(), number.0)
+    }
+
+    /// All rows, one after another.
+    pub(crate) fn iter(&self) -> ItemRows<'_>
+        ensures { result ≡ self.now.rows }
+    {
+        ItemRows::new(self.slots.as_slice())
     }
 
     /// Copies of all rows.

@@ -6,7 +6,10 @@ mod changing;
 mod copying;
 mod directory;
 mod finding;
+mod indexed;
 mod items;
+mod lawful;
+mod listing;
 mod names;
 mod refusing;
 mod region;
@@ -16,3 +19,5 @@ mod slots;
 mod tests;
 
 pub use directory::Directory;
+pub use indexed::IndexedRows;
+pub use listing::{ItemRows, RegionRows};

@@ -171,7 +171,7 @@ impl Directory {
     }
 
     /// The first refusal of a request that holds; none where the request is served.
-    pub(crate) fn refusal(&self, who: Who, request: &Request) -> Option<FamError>
+    pub fn refusal(&self, who: Who, request: &Request) -> Option<FamError>
         ensures { result ≡ words.refusal self.now.rows who request.now }
     {
         match request {

@@ -4,6 +4,8 @@ ghost use Rattle.std.specs.Prelude.{◌≡◌, ℕ, List, [], true, false, None,
 ghost use Rattle.std.specs.Str.{bytes_eq};
 ghost use Rattle.fam_model.specs.Limits.{max_region_size};
 ghost use Rattle.fam_directory.specs.Names.{named};
+ghost use Rattle.region_alloc.specs.declared.extent.Extent.{Extent as Room};
+ghost use Rattle.region_alloc.specs.Gaps.{Holds, space_with};
 ghost use Rattle.region_alloc.specs.Space.{has_place, has_room, is_cut_at, with_room, without_room};
 
 use crate::names::Names;
@@ -71,7 +73,7 @@ impl Region {
         ensures row { result.row ≡ row }
         ensures names { (name : List ℕ) → named name result.items ≡ None }
         ensures size { result.room.size ≡ row.size }
-        ensures rooms { result.room.rooms ≡ [] }
+        ensures rooms { Holds result.room [] }
     {
         let room = Extents::new(alloc, row.size);
         Region {
@@ -86,7 +88,7 @@ impl Region {
         ensures row { self.new.row ≡ self.old.row }
         ensures names { (name : List ℕ) → named name self.new.items ≡ named name self.old.items }
         ensures size { self.new.room.size ≡ self.old.room.size }
-        ensures rooms { self.new.room.rooms ≡ self.old.room.rooms }
+        ensures rooms { (rooms : List Room) → Holds self.old.room rooms → Holds self.new.room rooms }
         ensures named { OnOk result (self.new.items.is_ready ≡ true) }
         ensures placed { OnOk result (self.new.room.is_ready ≡ true) }
     {
@@ -100,11 +102,11 @@ impl Region {
         requires named { self.old.items.is_ready ≡ true }
         requires placed { self.old.room.is_ready ≡ true }
         requires absent { named key self.old.items ≡ None }
-        requires fits { has_place self.old.room size base ≡ true }
+        requires fits { (rooms : List Room) × Holds self.old.room rooms × (has_place (space_with self.old.room rooms) size base ≡ true) }
         ensures row { self.new.row ≡ self.old.row }
         ensures names { (name : List ℕ) → named name self.new.items ≡ (if bytes_eq key name then Some number.0 else named name self.old.items) }
         ensures size { self.new.room.size ≡ self.old.room.size }
-        ensures rooms { self.new.room.rooms ≡ with_room base size self.old.room.rooms }
+        ensures rooms { (rooms : List Room) → Holds self.old.room rooms → has_place (space_with self.old.room rooms) size base ≡ true → Holds self.new.room (with_room base size rooms) }
     {
         self.items.add(key, number.0);
         self.room.take(base, size);
@@ -119,37 +121,37 @@ impl Region {
         size: u64,
     ) -> Result<(), NoMemory>
         requires absent { named key self.old.items ≡ None }
-        requires fits { has_place self.old.room size base ≡ true }
+        requires fits { (rooms : List Room) × Holds self.old.room rooms × (has_place (space_with self.old.room rooms) size base ≡ true) }
         ensures row { OnOk result (self.new.row ≡ self.old.row) }
         ensures names { OnOk result ((name : List ℕ) → named name self.new.items ≡ (if bytes_eq key name then Some number.0 else named name self.old.items)) }
         ensures size { OnOk result (self.new.room.size ≡ self.old.room.size) }
-        ensures rooms { OnOk result (self.new.room.rooms ≡ with_room base size self.old.room.rooms) }
+        ensures rooms { (rooms : List Room) → Holds self.old.room rooms → has_place (space_with self.old.room rooms) size base ≡ true → OnOk result (Holds self.new.room (with_room base size rooms)) }
     {
         self.reserve()?;
         self.add(key, number, base, size);
         Ok(())
     }
 
-    /// Takes the item of a name, which lies at a base, out.
-    pub(crate) fn remove(&mut self, name: &[u8], base: u64)
-        requires { has_room base self.old.room.rooms ≡ true }
+    /// Takes the item of a name out, which lies at a base and has so many bytes.
+    pub(crate) fn remove(&mut self, name: &[u8], base: u64, size: u64)
+        requires { (rooms : List Room) × Holds self.old.room rooms × (has_room base size rooms ≡ true) }
         ensures row { self.new.row ≡ self.old.row }
         ensures names { (other : List ℕ) → named other self.new.items ≡ (if bytes_eq name.now other then None else named other self.old.items) }
         ensures size { self.new.room.size ≡ self.old.room.size }
-        ensures rooms { self.new.room.rooms ≡ without_room base self.old.room.rooms }
+        ensures rooms { (rooms : List Room) → Holds self.old.room rooms → has_room base size rooms ≡ true → Holds self.new.room (without_room base rooms) }
     {
         self.items.remove(name);
-        self.room.free(base);
+        self.room.free(base, size);
     }
 
     /// Gives the region another size.
     pub(crate) fn resize(&mut self, size: u64)
         requires limit { size ≤ max_region_size }
-        requires uncut { is_cut_at size self.old.room.rooms ≡ false }
+        requires uncut { (rooms : List Room) × Holds self.old.room rooms × (is_cut_at size rooms ≡ false) }
         ensures row { self.new.row ≡ record self.old.row { size = size } }
         ensures names { self.new.items ≡ self.old.items }
         ensures size { self.new.room.size ≡ size }
-        ensures rooms { self.new.room.rooms ≡ self.old.room.rooms }
+        ensures rooms { (rooms : List Room) → Holds self.old.room rooms → Holds self.new.room rooms }
     {
         self.row.size = size;
         match self.room.resize(size) {

@@ -74,7 +74,8 @@ pub(crate) fn set_mode_at(slots: &mut Vec<Slot>, number: u64, mode: Mode)
     }
 }
 
-/// Takes the empty slots out, once they are more than the rows.
+/// Takes the empty slots out, once they are more than the rows. So a walk over the slots costs no more than twice the rows that went
+/// since the last one.
 pub(crate) fn close_slots(slots: &mut Vec<Slot>, count: usize)
     requires { AreNumbered slots.old.items }
     ensures rows { rows_in slots.new.items ≡ rows_in slots.old.items }

@@ -3,7 +3,7 @@
 use crate::Directory;
 use fam_base::{Bytes, Descriptor, FamError, ItemId, Mode, NoMemory, RegionId, Sequence, Who};
 use fam_model::{Change, Reply, Request};
-use fam_rows::{answer, common_rows, is_lawful_change};
+use fam_rows::{answer, common_rows};
 use std::alloc::Global;
 use std::process::Abort;
 use std::test::Fail;
@@ -44,6 +44,22 @@ const STEPS: [(Ask, Want); 14] = [
     (Ask::Allocate("d", 64, 1), Want::Item(5, 0)),
     (Ask::Destroy(2), Want::Done),
     (Ask::Create("s", 64), Want::Region(3)),
+];
+
+/// Rooms that are given back join: two beside each other, and the last one with what lies behind it.
+const JOINED: [(Ask, Want); 12] = [
+    (Ask::Create("r", 256), Want::Region(1)),
+    (Ask::Allocate("a", 64, 1), Want::Item(1, 0)),
+    (Ask::Allocate("b", 1, 1), Want::Item(2, 64)),
+    (Ask::Allocate("c", 65, 1), Want::Item(3, 128)),
+    (Ask::Deallocate(2), Want::Done),
+    (Ask::Allocate("d", 65, 1), Want::Refused(FamError::NoSpace)),
+    (Ask::Deallocate(1), Want::Done),
+    (Ask::Allocate("d", 65, 1), Want::Item(4, 0)),
+    (Ask::Deallocate(3), Want::Done),
+    (Ask::Deallocate(4), Want::Done),
+    (Ask::Allocate("e", 256, 1), Want::Item(5, 0)),
+    (Ask::Resize(1, 255), Want::Refused(FamError::InUse)),
 ];
 
 /// A name of the most bytes, and one of one byte more.
@@ -122,8 +138,7 @@ fn asked(
 
 /// Makes a lawful change.
 fn made(directory: &mut Directory, change: &Change) -> Result<Result<Reply, FamError>, NoMemory> {
-    let rows = directory.rows()?;
-    if !is_lawful_change(&rows, change) {
+    if !directory.is_lawful_change(change) {
         return Ok(Err(FamError::Unsupported));
     }
     directory.reserve(change)?;
@@ -140,6 +155,14 @@ fn is_wanted(reply: &Result<Reply, FamError>, want: &Want) -> bool {
             item.item.0 == *number && item.base == *base
         }
         (Err(error), Want::Refused(refused)) => *error == *refused,
+        _ => false,
+    }
+}
+
+/// Whether an item of this size was found.
+fn is_item_of_size(found: &Option<Reply>, size: u64) -> bool {
+    match found {
+        Some(Reply::ItemStat(item)) => item.size == size,
         _ => false,
     }
 }
@@ -173,6 +196,51 @@ fn answers_requests_in_turn(rt: HostRuntime) -> Result<(), Fail> {
         Ok(256)
     );
     assert_eq!(rt; directory.rows()?.next_item, 6);
+    assert_eq!(rt; directory.items().count(), 4);
+    assert_eq!(rt;
+        directory.items().last().map(|row| row.number),
+        Some(ItemId(5))
+    );
+    assert_eq!(rt;
+        directory.regions().map(|row| row.size).sum::<u64>(),
+        directory.total_size()
+    );
+    Ok(())
+}
+
+#[test]
+fn joins_rooms_that_are_given_back(rt: HostRuntime) -> Result<(), Fail> {
+    let rows = common_rows(rt.alloc())?;
+    let mut directory = Directory::of_rows(rt.alloc(), &rows)?;
+    for (ask, want) in JOINED.iter() {
+        let reply = asked(rt.alloc(), &mut directory, ask)?;
+        assert!(rt; is_wanted(&reply, want));
+    }
+    Ok(())
+}
+
+#[test]
+fn tells_where_an_item_may_lie(rt: HostRuntime) -> Result<(), Fail> {
+    let rows = common_rows(rt.alloc())?;
+    let mut directory = Directory::of_rows(rt.alloc(), &rows)?;
+    assert!(rt; asked(rt.alloc(), &mut directory, &Ask::Create("r", 192))?.is_ok());
+    assert!(rt; asked(rt.alloc(), &mut directory, &Ask::Allocate("a", 64, 1))?.is_ok());
+    let request = Request::Allocate {
+        name: name_of(rt.alloc(), "b")?,
+        size: 64,
+        mode: Mode::of(0o700).unwrap(),
+        region: RegionId(1),
+    };
+    assert!(rt; !directory.may_lie(&request, 0));
+    assert!(rt; !directory.may_lie(&request, 65));
+    assert!(rt; directory.may_lie(&request, 64));
+    assert!(rt; directory.may_lie(&request, 128));
+    assert!(rt; !directory.may_lie(&request, 192));
+    assert_eq!(rt; directory.first_base(&request), Some(64));
+    assert_eq!(rt; directory.refusal(OWNER, &request), None);
+    let look_up = Request::Stat { item: ItemId(1) };
+    let found = directory.found(&look_up)?;
+    assert!(rt; is_item_of_size(&found, 64));
     Ok(())
 }
 

@@ -1,6 +1,6 @@
 -- What a journal has kept, and what a crash leaves of it.
 use Rattle.std.proofs.Common.{◌≡◌, ℕ, ◌+◌, ◌<◌, ◌≤◌, Bool, true, false, List, refl, sym, ap, ◌∙◌, subst, inl, inr, arith}
-use Rattle.std.specs.Prelude.{◌⊎◌, ◌≢◌, ◌↔◌, Option, Some, None, IsSome, Result, Ok, Err, OnOk, OnErr}
+use Rattle.std.specs.Prelude.{◌⊎◌, ◌≢◌, ◌↔◌, Option, Some, None, IsSome, IsTrue, Result, Ok, Err, OnOk, OnErr}
 use Rattle.fam_base.specs.Causes.{HasCause, Rose}
 use Rattle.fam_base.specs.declared.error.NoMemory.{NoMemory}
 use Rattle.fam_disk.specs.Crash.{DiskState, Leaves, LeavesOnly}
@@ -10,9 +10,10 @@ use Rattle.fam_model.specs.declared.change.Change.{Change}
 use Rattle.fam_model.specs.declared.rows.Rows.{Rows}
 use Rattle.fam_model.specs.Directory.{after}
 use Rattle.fam_model.specs.Journal.{rows_of}
+use Rattle.fam_model.specs.Lawful.{is_lawful_change}
 use Rattle.fam_model.specs.Limits.{service_limits}
 use Rattle.meta_journal.specs.Reading.{HasRows}
-use Rattle.meta_journal.specs.State.{HasRowsInDoubt, HasRowsOrAfter, IsRefusal, IsSameJournal, IsSound, IsUntouched, MayDoubt, MayHold, acknowledged, change_in_doubt}
+use Rattle.meta_journal.specs.State.{HasRowsInDoubt, HasRowsOrAfter, IsForm, IsRefusal, IsReserved, IsSameJournal, IsSound, IsUntouched, MayDoubt, MayHold, acknowledged, change_in_doubt, has_room}
 use Rattle.meta_journal.specs.declared.doubt.Doubt.{Doubt}
 use Rattle.meta_journal.specs.declared.doubt.Doubt.TheVariants.{Nothing, OfChange, OfArea}
 use Rattle.meta_journal.specs.declared.journal.Journal.{Journal}
@@ -83,6 +84,30 @@ module _ {D : Type 0} {disk : Ghosts D} where
         limit = same.limit ∙ has.limit;
         rows_are = λ told. ap rows_of changes ∙ has.rows_are (subst (λ d. IsSome (disk.state d).content) same.same_disk told);
       }
+
+  -- what was reserved for a change that fits is so for these rows
+  pub reserved_for : (old new : Journal D disk) (change : Change) (rows others : Rows) → HasKept old rows → IsUntouched old new → acknowledged new ≡ acknowledged old → IsTrue (has_room old.limit old.used change) →
+      IsTrue (is_lawful_change rows change) → IsReserved new change others → IsReserved new change rows
+  reserved_for old new change rows others has same changes room lawful r =
+      record {
+        reserve = r.reserve;
+        is_there = r.is_there;
+        of_change = r.of_change;
+        of_rows = λ told. ap rows_of changes ∙ has.rows_are (subst (λ d. IsSome (disk.state d).content) same.same_disk told);
+        lawful = λ told. lawful;
+        has_body = r.has_body;
+        form = same_form r.reserve.short r.form;
+      }
+    where
+      fits_still : has_room new.limit new.used change ≡ true
+      fits_still = ap (λ n. has_room n new.used change) same.limit ∙ ap (λ n. has_room old.limit n change) same.used ∙ room
+
+      true_false : true ≡ false → ⊥
+      true_false e = cc
+
+      same_form : (o : Option (List ℕ)) → IsForm new.limit new.used others change o → IsForm new.limit new.used rows change o
+      same_form None form = form
+      same_form (Some form) given = absurd (true_false (sym fits_still ∙ given.0))
 
   pub not_reserved : (rows : Rows) (change : Change) (old mid : Journal D disk) (e : NoMemory) → IsUntouched old mid → IsSound mid → acknowledged mid ≡ acknowledged old → HasKept old rows → Tells (disk.state old.disk) →
       IsAppended rows change old mid (Err e)

@@ -3,13 +3,13 @@
 ghost use Rattle.std.specs.Prelude.{◌≡◌, Some, None, true, false, IsTrue};
 ghost use Rattle.std.specs.Option.{option_map};
 ghost use Rattle.fam_model.specs.Lawful.{is_lawful_change};
-ghost use Rattle.fam_model.specs.Rows.{IsLawful};
 
 use crate::appending::append;
 use crate::kept::Kept;
 use fam_base::NoMemory;
+use fam_directory::IndexedRows;
 use fam_disk::Disk;
-use fam_model::{Change, Rows};
+use fam_model::Change;
 use meta_journal::Journal;
 
 /// A journal on a disk, or none: then changes end with the run.
@@ -62,10 +62,9 @@ impl<D: Disk> Keeper<D> {
     }
 
     /// Keeps a lawful change of these rows. From `Served` on each crash leaves it.
-    pub fn keep(&mut self, rows: &Rows, change: &Change) -> Result<Kept, NoMemory>
+    pub fn keep(&mut self, rows: &IndexedRows, change: &Change) -> Result<Kept, NoMemory>
         requires kept { keeping.HasKeptIn self.old.journal rows.now }
         requires goes_on { self.old.stopped ≡ false }
-        requires lawful { IsLawful rows.now }
         requires lawful_change { IsTrue (is_lawful_change rows.now change.now) }
         ensures { keeping.IsTaken rows.now change.now self.old self.new result }
     {

@@ -3,6 +3,7 @@
 use crate::same::is_same;
 use crate::{Keeper, Kept};
 use fam_base::{Bytes, ItemId, Mode, RegionId};
+use fam_directory::IndexedRows;
 use fam_disk::MemDisk;
 use fam_model::Change;
 use fam_rows::{common_rows, is_lawful_change};
@@ -31,6 +32,7 @@ fn keeps_nothing_without_a_journal(rt: HostRuntime) -> Result<(), Fail> {
         return Err(Fail::new("not lawful"));
     }
     let mut keeper = Keeper::<MemDisk>::nothing();
+    let rows = IndexedRows::of_rows(rt.alloc(), &rows)?;
     assert_eq!(rt; keeper.keep(&rows, &change), Ok(Kept::Served));
     keeper.stop();
     assert!(rt; keeper.is_stopped());

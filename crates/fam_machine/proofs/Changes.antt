@@ -1,6 +1,6 @@
 -- What a change of the directory leaves of items, and of memory.
-use Rattle.std.proofs.Common.{◌≡◌, ℕ, ◌<◌, ◌≤◌, List, [], ◌∷◌, ◌++◌, get_or, map, Option, Some, None, Bool, true, false, sym, ap, subst, ◌∙◌, arith, refl}
-use Rattle.std.specs.Prelude.{◌==◌, ◌&&◌, not, nat_le, nat_lt, cond, All, filter, find, is_some, IsTrue}
+use Rattle.std.proofs.Common.{◌≡◌, ℕ, ◌<◌, ◌≤◌, List, [], ◌∷◌, ◌++◌, get_or, map, Option, Some, None, Bool, true, false, sym, ap, subst, ◌∙◌, arith, refl, eqb-true}
+use Rattle.std.specs.Prelude.{◌==◌, ◌&&◌, not, nat_le, nat_lt, cond, All, filter, find, is_some, remove, replicate, slice_get, IsTrue}
 use Rattle.std.specs.Option.{option_map, option_or}
 use Rattle.std.specs.List.Sorted.{IsStrictlyIncreasing}
 use Rattle.std.proofs.lemmas.Bool.{false≢true}
@@ -8,6 +8,7 @@ use Rattle.std.proofs.lemmas.Bool.Decides.{nat_tests}
 use Rattle.std.proofs.lemmas.List.{map-append, length-map, length-replicate, append-nil, get_or-map}
 use Rattle.std.proofs.lemmas.List.Elements.{All-cons, All-tail, All-head, All-nil, All-filter, All-map}
 use Rattle.std.proofs.lemmas.List.Folds.{find-append}
+use Rattle.std.proofs.lemmas.List.Quantifiers.{position-Some}
 use Rattle.std.proofs.lemmas.Option.{none-some, same_Some}
 use Rattle.fam_base.specs.declared.naming.ItemId.{ItemId}
 use Rattle.fam_model.specs.declared.change.Change.{Change}
@@ -17,9 +18,12 @@ use Rattle.fam_model.specs.declared.rows.Rows.{Rows}
 use Rattle.fam_model.specs.Directory.{after, memory_after, new_bytes, Memory}
 use Rattle.fam_model.specs.Lawful.{is_lawful_change, is_next_number}
 use Rattle.fam_model.specs.Limits.{number_end}
-use Rattle.fam_model.specs.Lists.{find_number}
+use Rattle.fam_model.specs.Lists.{◌>>=◌, change_number, drop_number, find_number, place_of}
+use Rattle.fam_model.specs.PieceStep.{entry_number}
 use Rattle.fam_model.specs.Rows.{IsLawful, item_of, item_number}
-use Rattle.fam_machine.specs.Sound.{entry_extent, item_extent, IsMemoryOf}
+use Rattle.fam_rows.proofs.Places.{rises}
+use Rattle.fam_directory.proofs.Moves.{removed_is}
+use Rattle.fam_machine.specs.Sound.{entry_extent, item_extent, IsMemoryOf, taken_item, takes_region}
 use Rattle.fam_machine.proofs.Lists.{find_number-find, found-filter, found_passes, found_holds, rise_behind, above_first, map-change_number, both_true}
 
 -- lists
@@ -195,15 +199,17 @@ memory_kept items now memory keep same there =
     sym (filter-map entry_extent is_there memory) ∙ ap (λ es. filter is_there es) same ∙ filter-map item_extent is_there items
     ∙ ap (λ xs. map item_extent xs) (filter_agree_on (λ row. is_some (find_number item_number (item_number row) now)) keep items there)
 
--- memory of rows that have items of the same numbers and sizes
-memory_same : (items now : List ItemRow) (memory : Memory) → IsMemoryOf items memory → IsStrictlyIncreasing (map item_number items) → map item_extent now ≡ map item_extent items → IsMemoryOf now (filter (λ entry. is_some (find_number item_number entry.0.0 now)) memory)
-memory_same items now memory same rise e =
-    let all : All (λ row. is_some (find_number item_number (item_number row) now) ≡ true) items = λ k d lt.
+-- items of the same numbers and sizes are all found
+same_found : (items now : List ItemRow) → IsStrictlyIncreasing (map item_number items) → map item_extent now ≡ map item_extent items → All (λ row. is_some (find_number item_number (item_number row) now) ≡ true) items
+same_found items now rise e = λ k d lt.
     let n = item_number (get_or items k d) in
     sym (some-map item_extent (find_number item_number n now)) ∙ ap is_some (extent_of n now ∙ ap (λ es. find (λ e. e.0 == n) es) e ∙ sym (extent_of n items))
     ∙ some-map item_extent (find_number item_number n items) ∙ ap is_some (find_number-find item_number n items) ∙ all_found item_number items rise k d lt
-    in
-    memory_kept items now memory (λ row. true) same all ∙ ap (λ xs. map item_extent xs) (filter_all items) ∙ sym e
+
+-- memory of rows that have items of the same numbers and sizes
+memory_same : (items now : List ItemRow) (memory : Memory) → IsMemoryOf items memory → IsStrictlyIncreasing (map item_number items) → map item_extent now ≡ map item_extent items → IsMemoryOf now (filter (λ entry. is_some (find_number item_number entry.0.0 now)) memory)
+memory_same items now memory same rise e =
+    memory_kept items now memory (λ row. true) same (same_found items now rise e) ∙ ap (λ xs. map item_extent xs) (filter_all items) ∙ sym e
 
 -- memory with the bytes of one more item
 memory_more : (items : List ItemRow) (added : ItemRow) (memory more : Memory) → IsMemoryOf items memory → IsStrictlyIncreasing (map item_number items) → map entry_extent more ≡ item_extent added ∷ [] → IsMemoryOf (items ++ added ∷ []) (filter (λ entry. is_some (find_number item_number entry.0.0 (items ++ added ∷ []))) memory ++ more)
@@ -253,19 +259,22 @@ memory_follows rows (change.Skip next_region next_item) memory lawful same =
 unmapped : {A B : Type 0} (P : B → Type 0) (f : A → B) (xs : List A) → All P (map f xs) → All (λ x. P (f x)) xs
 unmapped P f xs all k d lt = subst P (get_or-map f xs k d (f d) lt) (all k (f d) (omega (arith, length-map xs f)))
 
+-- the bytes of items that are all found stay
+all_stay : (items now : List ItemRow) (memory : Memory) → IsMemoryOf items memory → All (λ row. is_some (find_number item_number (item_number row) now) ≡ true) items → filter (λ entry. is_some (find_number item_number entry.0.0 now)) memory ≡ memory
+all_stay items now memory same rows =
+    let is_there : ℕ × ℕ → Type 0 = λ e. is_some (find_number item_number e.0 now) ≡ true in
+    let extents : All is_there (map entry_extent memory) = subst (All is_there) (sym same) (All-map is_there item_extent items rows) in
+    let entries : All (λ entry. is_there (entry_extent entry)) memory = unmapped is_there entry_extent memory extents in
+    filter_agree_on (λ entry. is_some (find_number item_number entry.0.0 now)) (λ entry. true) memory entries ∙ filter_all memory
+
 -- memory keeps the bytes of all items where one more is there
 old_kept : (items : List ItemRow) (added : ItemRow) (memory : Memory) → IsMemoryOf items memory → IsStrictlyIncreasing (map item_number items) → filter (λ entry. is_some (find_number item_number entry.0.0 (items ++ added ∷ []))) memory ≡ memory
 old_kept items added memory same rise =
     let now = items ++ added ∷ [] in
-    let is_there : ℕ × ℕ → Type 0 = λ e. is_some (find_number item_number e.0 now) ≡ true in
-    let rows : All (λ row. is_there (item_extent row)) items = λ k d lt.
+    all_stay items now memory same (λ k d lt.
     let n = item_number (get_or items k d) in
     ap is_some (find_number-find item_number n now ∙ find-append (λ row. item_number row == n) items (added ∷ []))
-    ∙ some-or (find (λ row. item_number row == n) items) (find (λ row. item_number row == n) (added ∷ [])) (all_found item_number items rise k d lt)
-    in
-    let extents : All is_there (map entry_extent memory) = subst (All is_there) (sym same) (All-map is_there item_extent items rows) in
-    let entries : All (λ entry. is_there (entry_extent entry)) memory = unmapped is_there entry_extent memory extents in
-    filter_agree_on (λ entry. is_some (find_number item_number entry.0.0 now)) (λ entry. true) memory entries ∙ filter_all memory
+    ∙ some-or (find (λ row. item_number row == n) items) (find (λ row. item_number row == n) (added ∷ [])) (all_found item_number items rise k d lt))
 
 -- a change that makes an item adds its bytes, and leaves those of the others
 pub memory_with_new : (rows : Rows) (chosen : Change) (memory : Memory) (new : ItemId × List ℕ) → IsLawful rows → IsMemoryOf rows.items memory → new_bytes chosen ≡ new ∷ [] → memory_after rows chosen memory ≡ memory ++ new ∷ []
@@ -280,3 +289,58 @@ memory_with_new rows chosen memory new lawful same e = absurd (no_bytes e)
 pub memory_without_new : (rows : Rows) (chosen : Change) (memory : Memory) → new_bytes chosen ≡ [] → memory_after rows chosen memory ≡ filter (λ entry. is_some (item_of (after rows chosen) entry.0.0)) memory
 memory_without_new rows chosen memory e =
     let kept = filter (λ entry. is_some (item_of (after rows chosen) entry.0.0)) memory in ap (λ new. kept ++ new) e ∙ append-nil kept
+
+-- a change that takes one item away drops its bytes
+pub one_taken : (rows : Rows) (chosen : Change) (memory : Memory) (item : ItemId) → IsLawful rows → IsMemoryOf rows.items memory → taken_item chosen ≡ Some item →
+    drop_number entry_number item.0 memory ≡ filter (λ entry. is_some (item_of (after rows chosen) entry.0.0)) memory
+one_taken rows (change.Deallocate gone) memory item lawful same e =
+    let keep : ItemRow → Bool = λ row. not (item_number row == gone.0) in
+    let now = filter keep rows.items in
+    let agrees : ℕ × ℕ → Type 0 = λ x. is_some (find_number item_number x.0 now) ≡ not (x.0 == gone.0) in
+    let extents : All agrees (map entry_extent memory) = subst (All agrees) (sym same) (All-map agrees item_extent rows.items (kept_by_number rows.items keep lawful.item_numbers_rise)) in
+    let entries : All (λ entry. agrees (entry_extent entry)) memory = unmapped agrees entry_extent memory extents in
+    ap (λ (i : ItemId). drop_number entry_number i.0 memory) (sym (same_Some gone item e))
+    ∙ sym (filter_agree_on (λ entry. is_some (find_number item_number entry.0.0 now)) (λ entry. not (entry.0.0 == gone.0)) memory entries)
+one_taken rows (change.CreateRegion region uid gid mode size name) memory item lawful same e = absurd (none-some item e)
+one_taken rows (change.DestroyRegion region) memory item lawful same e = absurd (none-some item e)
+one_taken rows (change.ResizeRegion region size) memory item lawful same e = absurd (none-some item e)
+one_taken rows (change.SetRegionMode region mode) memory item lawful same e = absurd (none-some item e)
+one_taken rows (change.Allocate i region base size uid gid mode name) memory item lawful same e = absurd (none-some item e)
+one_taken rows (change.SetItemMode i mode) memory item lawful same e = absurd (none-some item e)
+one_taken rows (change.Skip next_region next_item) memory item lawful same e = absurd (none-some item e)
+
+-- a change that takes no item away and makes none leaves all bytes
+pub none_taken : (rows : Rows) (chosen : Change) (memory : Memory) → IsLawful rows → IsMemoryOf rows.items memory → taken_item chosen ≡ None → takes_region chosen ≡ false → new_bytes chosen ≡ [] →
+    filter (λ entry. is_some (item_of (after rows chosen) entry.0.0)) memory ≡ memory
+none_taken rows (change.CreateRegion region uid gid mode size name) memory lawful same none stays makes = all_stay rows.items rows.items memory same (same_found rows.items rows.items lawful.item_numbers_rise refl)
+none_taken rows (change.ResizeRegion region size) memory lawful same none stays makes = all_stay rows.items rows.items memory same (same_found rows.items rows.items lawful.item_numbers_rise refl)
+none_taken rows (change.SetRegionMode region mode) memory lawful same none stays makes = all_stay rows.items rows.items memory same (same_found rows.items rows.items lawful.item_numbers_rise refl)
+none_taken rows (change.Skip next_region next_item) memory lawful same none stays makes = all_stay rows.items rows.items memory same (same_found rows.items rows.items lawful.item_numbers_rise refl)
+none_taken rows (change.SetItemMode item mode) memory lawful same none stays makes =
+    let now = change_number item_number item.0 (λ row. record row { mode = mode }) rows.items in
+    all_stay rows.items now memory same (same_found rows.items now lawful.item_numbers_rise (map-change_number item_extent item_number item.0 (λ row. record row { mode = mode }) rows.items (λ row. refl)))
+none_taken rows (change.Deallocate item) memory lawful same none stays makes = absurd (none-some item (sym none))
+none_taken rows (change.DestroyRegion region) memory lawful same none stays makes = absurd (false≢true (sym stays))
+none_taken rows (change.Allocate item region base size uid gid mode name) memory lawful same none stays makes = absurd (some_bytes makes)
+  where
+    some_bytes : ◌≡◌ {A = Memory} ((item, replicate size 0) ∷ []) [] → ⊥
+    some_bytes e = cc
+
+-- what is not there is dropped from nowhere
+pub nothing_dropped : {A : Type 0} (number : A → ℕ) (n : ℕ) (xs : List A) → find (λ x. number x == n) xs ≡ None → drop_number number n xs ≡ xs
+nothing_dropped number n [] e = refl
+nothing_dropped number n (x ∷ xs) e = here (number x == n) refl e (nothing_dropped number n xs)
+  where
+    here : (b : Bool) → (number x == n) ≡ b → cond b (Some x) (find (λ y. number y == n) xs) ≡ None → (find (λ y. number y == n) xs ≡ None → drop_number number n xs ≡ xs) → drop_number number n (x ∷ xs) ≡ x ∷ xs
+    here true is none rest = absurd (none-some x (sym none))
+    here false is none rest = ap (λ b. cond (not b) (x ∷ drop_number number n xs) (drop_number number n xs)) is ∙ ap (λ ys. x ∷ ys) (rest none)
+
+pub nothing_there : (memory : Memory) (item : ItemId) → place_of entry_number item.0 memory ≡ None → drop_number entry_number item.0 memory ≡ memory
+nothing_there memory item e =
+    nothing_dropped entry_number item.0 memory (sym (find_number-find entry_number item.0 memory) ∙ ap (λ o. o >>= λ k. slice_get memory k) e)
+
+-- where an entry lies it is taken out
+pub entry_removed : (memory : Memory) (item : ItemId) (at : ℕ) → IsStrictlyIncreasing (map entry_number memory) → place_of entry_number item.0 memory ≡ Some at → remove memory at ≡ drop_number entry_number item.0 memory
+entry_removed memory item at rise e =
+    let there = position-Some (λ entry. entry_number entry == item.0) memory at (item, []) e in
+    removed_is entry_number item.0 at memory (item, []) (rises entry_number memory rise) there.0 (eqb-true _ _ there.1)

@@ -48,7 +48,7 @@ use Rattle.fam_machine.proofs.Rounds.{next_bound, program_next, AreOnTime, on_ti
 use Rattle.fam_machine.proofs.Told.{meta_next, step_change, holds_kept}
 
 -- the mode of a call is that of its request
-mode_made : (p : ProgramState) (asked : MetaCall) (made : Request) → request_of p asked ≡ Some made → asked_mode made ≡ call_mode asked
+pub mode_made : (p : ProgramState) (asked : MetaCall) (made : Request) → request_of p asked ≡ Some made → asked_mode made ≡ call_mode asked
 mode_made p (meta.CreateRegion slot name size mode) made e = sym (ap asked_mode (same_Some _ made e))
 mode_made p (meta.DestroyRegion slot) made e = let there = bind_some (region_slot p slot) _ made e in sym (ap asked_mode (same_Some _ made there.2))
 mode_made p (meta.ResizeRegion slot size) made e = let there = bind_some (region_slot p slot) _ made e in sym (ap asked_mode (same_Some _ made there.2))

@@ -1,5 +1,5 @@
 -- The machine's state, seen from the step of one program.
-use Rattle.std.proofs.Common.{◌≡◌, ℕ, ◌+◌, ◌<◌, Option, Some, None, Bool, true, false, Result, Ok, Err, sym, ap, subst, ◌∙◌, refl}
+use Rattle.std.proofs.Common.{◌≡◌, ℕ, ◌+◌, ◌<◌, ◌≤◌, arith, Option, Some, None, Bool, true, false, Result, Ok, Err, sym, ap, subst, ◌∙◌, refl}
 use Rattle.std.specs.Prelude.{◌&&◌, if◌then◌else◌, slice_get, slice_set, IsTrue, All}
 use Rattle.std.specs.Option.{option_map, option_map_or}
 use Rattle.std.proofs.lemmas.Bool.{false≢true}
@@ -16,6 +16,8 @@ use Rattle.fam_model.specs.declared.rows.Rows.{Rows}
 use Rattle.fam_model.specs.declared.state.ProgramState.{ProgramState}
 use Rattle.fam_model.specs.declared.state.State.{State}
 use Rattle.fam_model.specs.Directory.{Memory}
+use Rattle.fam_model.specs.History.{change_in}
+use Rattle.fam_model.specs.Lawful.{is_lawful_change}
 use Rattle.fam_model.specs.Limits.{service_limits, number_end}
 use Rattle.fam_model.specs.Lists.{◌>>=◌, when, is_some_and}
 use Rattle.fam_model.specs.MetaStep.{meta_step, served_change, told_change, may_reply, changed}
@@ -29,11 +31,12 @@ use Rattle.fam_machine.specs.declared.error.StepError.{StepError}
 use Rattle.fam_machine.specs.declared.error.StepError.TheVariants as error
 use Rattle.fam_machine.specs.declared.parts.Parts.{Parts}
 use Rattle.fam_machine.specs.Effects.{Steps, Takes}
-use Rattle.fam_machine.specs.Sound.{IsSound, IsSoundProgram, IsOnTime}
+use Rattle.fam_machine.specs.Sound.{IsSound, IsSoundProgram, IsOnTime, call_mode}
 use Rattle.fam_machine.specs.Views.{state_of, states_of, rows_with, memory_with, turn_at, effect_at, rule_at, is_of_member, member_step_of, member_rule, is_plain, makes_call, plain_step}
 use Rattle.fam_machine.proofs.Lists.{All-at, both_true}
 use Rattle.fam_machine.proofs.Rounds.{round_bound, next_bound, arrive_on_time, leave_on_time, crash_on_time}
-use Rattle.fam_machine.proofs.States.{in_turn}
+use Rattle.fam_machine.proofs.States.{in_turn, mode_made}
+use Rattle.fam_rows.proofs.Served.{told_lawful}
 
 -- the program of a number
 
@@ -118,6 +121,20 @@ meta_taken parts pe call asked given p q made rows memory e request may same_row
     ∙ ap (λ r. Some (with_program (changed (state_of parts) told) pe r)) (sym same_program)
     ∙ ap (λ x. Some x) (changed_state parts told pe q)
     ∙ (λ i. Some (state_of (record parts { rows = sym same_rows i; memory = sym same_memory i; programs = slice_set parts.programs pe q })))
+
+-- the change that it serves
+pub change_here : (parts : Parts) (pe : ℕ) (asked : MetaCall) (given : Reply) (p : TrackedProgram) (made : Request) → slice_get parts.programs pe ≡ Some p → request_of p.state asked ≡ Some made →
+    change_in (state_of parts) pe (what.Meta asked given) ≡ told_change parts.rows p.state.who made given
+change_here parts pe asked given p made e request =
+    ap (λ (o : Option ProgramState). o >>= λ q. served_change parts.rows q asked given) (program_here parts pe p e)
+    ∙ ap (λ (o : Option Request). o >>= λ r. told_change parts.rows p.state.who r given) request
+
+-- it is lawful
+pub change_is_lawful : (parts : Parts) (pe : ℕ) (asked : MetaCall) (given : Reply) (p : TrackedProgram) (made : Request) (chosen : Change) → IsSound (state_of parts) → call_mode asked ≤ 511 →
+    slice_get parts.programs pe ≡ Some p → request_of p.state asked ≡ Some made → told_change parts.rows p.state.who made given ≡ Some chosen → is_lawful_change parts.rows chosen ≡ true
+change_is_lawful parts pe asked given p made chosen sound small there request told =
+    let mode = mode_made p.state asked made request in
+    told_lawful parts.rows p.state.who made given chosen sound.lawful (sound_here parts pe p sound there).user (omega (arith, mode, small)) told
 
 -- one that has no request or a wrong reply
 pub meta_refused : (parts : Parts) (pe call : ℕ) (asked : MetaCall) (given : Reply) (p : TrackedProgram) → slice_get parts.programs pe ≡ Some p → request_of p.state asked ≡ None → effect_at (state_of parts) pe call (what.Meta asked given) ≡ None

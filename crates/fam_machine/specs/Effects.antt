@@ -1,11 +1,13 @@
 -- How a step is told from what breaks a rule.
-use Rattle.std.specs.Prelude.{◌≡◌, ℕ, Bool, true, false, Option, Some, None, Result, Ok, Err}
+use Rattle.std.specs.Prelude.{◌≡◌, ℕ, Bool, true, false, Option, Some, None, Result, Ok, Err, IsTrue}
 use Rattle.fam_base.specs.declared.naming.Who.{Who}
+use Rattle.fam_model.specs.declared.change.Change.{Change}
 use Rattle.fam_model.specs.declared.reply.Reply.{Reply}
 use Rattle.fam_model.specs.declared.request.Request.{Request}
 use Rattle.fam_model.specs.declared.rows.Rows.{Rows}
 use Rattle.fam_model.specs.declared.state.ProgramState.{ProgramState}
 use Rattle.fam_model.specs.declared.state.State.{State}
+use Rattle.fam_model.specs.Lawful.{is_lawful_change}
 use Rattle.fam_model.specs.MetaStep.{may_reply, told_change}
 use Rattle.fam_program.specs.declared.tracked.TrackedProgram.{TrackedProgram}
 use Rattle.fam_model.specs.Directory.{Memory}
@@ -35,6 +37,11 @@ Tells rows who request given told.Wrong = may_reply rows who request given ≡ f
 Tells rows who request given told.Right = (may_reply rows who request given ≡ true) × (told_change rows who request given ≡ None)
 Tells rows who request given (told.Serves chosen) =
     (may_reply rows who request given ≡ true) × (told_change rows who request given ≡ Some chosen)
+
+-- a change, if there is one, is lawful on these rows
+abbrev pub IsLawfulHere : Rows → Option Change → Type 0
+IsLawfulHere rows None = Unit {0}
+IsLawfulHere rows (Some chosen) = IsTrue (is_lawful_change rows chosen)
 
 -- right or wrong, where nothing changes
 abbrev pub told_if : Bool → Told

@@ -6,6 +6,8 @@ use Rattle.fam_model.specs.declared.call.Op.{Op}
 use Rattle.fam_model.specs.declared.call.Width.{Width}
 use Rattle.fam_model.specs.declared.call.MetaCall.{MetaCall}
 use Rattle.fam_model.specs.declared.call.MetaCall.TheVariants as meta
+use Rattle.fam_model.specs.declared.change.Change.{Change}
+use Rattle.fam_model.specs.declared.change.Change.TheVariants as change
 use Rattle.fam_model.specs.declared.event.What.{What}
 use Rattle.fam_model.specs.declared.event.What.TheVariants as what
 use Rattle.fam_model.specs.declared.piece.MarkedPiece.{MarkedPiece}
@@ -46,6 +48,16 @@ IsMemoryOf items memory = map entry_extent memory ≡ map item_extent items
 abbrev pub zero_bytes : Option (ItemId × ℕ) → List (ItemId × List ℕ)
 zero_bytes None = []
 zero_bytes (Some new) = (new.0, replicate new.1 0) ∷ []
+
+-- the item that a change takes away alone
+abbrev pub taken_item : Change → Option ItemId
+taken_item (change.Deallocate item) = Some item
+taken_item _ = None
+
+-- the change takes away a region with its items
+abbrev pub takes_region : Change → Bool
+takes_region (change.DestroyRegion region) = true
+takes_region _ = false
 
 -- what programs hold
 

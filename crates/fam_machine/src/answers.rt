@@ -9,7 +9,8 @@ ghost use Rattle.fam_machine.specs.Sound.{IsMemoryOf, IsSoundPiece};
 
 use crate::memory::{Memory, bytes_found};
 use fam_base::{FamError, NoMemory, Sequence, Who, allowed};
-use fam_model::{PieceAnswer, PlanKind, PlanPiece, Rows};
+use fam_directory::IndexedRows;
+use fam_model::{PieceAnswer, PlanKind, PlanPiece};
 use std::alloc::Global;
 
 /// The entries that one history may have.
@@ -32,7 +33,7 @@ pub fn is_refused(answer: &PieceAnswer) -> bool
 /// Whether a piece that finds memory and room is answered so.
 #[tactic(auto, unfolding(fam_model::specs::PieceStep::due_answer))]
 fn is_due(
-    rows: &Rows,
+    rows: &IndexedRows,
     memory: &Memory,
     who: Who,
     kind: PlanKind,
@@ -44,7 +45,7 @@ fn is_due(
     requires sound { IsSoundPiece rows.now piece.now }
     ensures { result ≡ same_answer given.now (steps.due_answer rows.now memory.now who kind piece.now) }
 {
-    let Some(row) = fam_rows::item(rows, piece.item) else {
+    let Some(row) = rows.item(piece.item) else {
         return *given == PieceAnswer::Refused(FamError::Absent);
     };
     let owner = Who {
@@ -66,7 +67,7 @@ fn is_due(
 /// Whether a piece may be answered so: as it is due, or where memory or room is wanting.
 #[tactic(auto, unfolding(fam_model::specs::PieceStep::may_answer))]
 pub fn may_answer(
-    rows: &Rows,
+    rows: &IndexedRows,
     memory: &Memory,
     who: Who,
     kind: PlanKind,
@@ -99,7 +100,7 @@ fn served_answer(alloc: Global, kind: PlanKind, found: &[u8]) -> Result<PieceAns
 #[tactic(auto, unfolding(fam_model::specs::PieceStep::due_answer))]
 pub fn due_answer(
     alloc: Global,
-    rows: &Rows,
+    rows: &IndexedRows,
     memory: &Memory,
     who: Who,
     kind: PlanKind,
@@ -110,7 +111,7 @@ pub fn due_answer(
     requires sound { IsSoundPiece rows.now piece.now }
     ensures { IfOk result (λ given. given ≡ steps.due_answer rows.now memory.now who kind piece.now) }
 {
-    let Some(row) = fam_rows::item(rows, piece.item) else {
+    let Some(row) = rows.item(piece.item) else {
         return Ok(PieceAnswer::Refused(FamError::Absent));
     };
     let owner = Who {

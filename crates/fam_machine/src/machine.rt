@@ -3,12 +3,13 @@
 ghost use Rattle.std.specs.Prelude.{◌≡◌, ◌↔◌, ◌<◌, ◌≤◌, All, length, map, is_some, IfOk, IsTrue};
 ghost use Rattle.std.specs.List.{enumerate_from};
 ghost use Rattle.std.specs.Option.{option_copied, option_map};
+ghost use Rattle.fam_model.specs.History.{change_served};
 ghost use Rattle.fam_model.specs.Programs.{program_of};
 ghost use Rattle.fam_model.specs.Limits.{nobody};
 ghost use Rattle.fam_model.specs.Opened as opening;
 ghost use Rattle.fam_model.specs.Rows.{IsLawful, item_of};
 ghost use Rattle.fam_model.specs.Services.{is_service};
-ghost use Rattle.fam_machine.specs.Effects.{Takes};
+ghost use Rattle.fam_machine.specs.Effects.{IsLawfulHere, Takes};
 ghost use Rattle.fam_machine.specs.Sound.{HasModes, IsSound};
 ghost use Rattle.fam_machine.specs.Views as views;
 ghost use Rattle.fam_machine.specs.Views.{state_of, due_at, turn_at, effect_at, rule_at};
@@ -16,13 +17,14 @@ ghost use Rattle.fam_machine.specs.Views.{state_of, due_at, turn_at, effect_at, 
 use crate::ends::member;
 use crate::error::StepError;
 use crate::memory::{bytes_of, zero_memory};
-use crate::meta::{meta, mode_bits};
+use crate::meta::{change_of, meta, mode_bits};
 use crate::parts::Parts;
 use crate::pieces::{due_answer, piece};
 use crate::plain::plain;
 use fam_base::{Bytes, ItemId, NoMemory, Sequence, Who};
+use fam_directory::IndexedRows;
 use fam_layout::Layout;
-use fam_model::{Event, PieceAnswer, Rows, Service, What};
+use fam_model::{Change, Event, PieceAnswer, Rows, Service, What};
 use fam_program::Program;
 use std::alloc::Global;
 use std::marker::Model;
@@ -66,6 +68,7 @@ impl Machine {
         ensures { IfOk result (λ machine. machine ≡ opening.opened rows service whos.now local) }
     {
         let memory = zero_memory(alloc, &rows)?;
+        let rows = IndexedRows::of_rows(alloc, &rows)?;
         let programs = new_programs(alloc, whos, local)?;
         Ok(Machine {
             alloc,
@@ -90,6 +93,19 @@ impl Machine {
             return Err(StepError::Illegal(1));
         }
         take(self.alloc, &mut self.parts, pe, event.call, &event.what)
+    }
+
+    /// The change of the directory that an event would serve now, if it would serve one. It is lawful.
+    pub fn change_of(&self, event: &Event) -> Result<Option<Change>, NoMemory>
+        ensures change { IfOk result (λ found. found ≡ change_served self.now event.now) }
+        ensures lawful { IfOk result (IsLawfulHere self.now.rows) }
+    {
+        prove!(mode_of(&event.what) <= 511);
+        let pe = event.pe.0 as usize;
+        match &event.what {
+            What::Meta { call, reply } => change_of(self.alloc, &self.parts, pe, call, reply),
+            _ => Ok(None),
+        }
     }
 
     /// What each program has. Contracts see its state.
@@ -135,7 +151,7 @@ impl Machine {
     }
 
     /// The directory.
-    pub fn rows(&self) -> &Rows
+    pub fn rows(&self) -> &IndexedRows
         ensures { result.now ≡ self.now.rows }
     {
         &self.parts.rows

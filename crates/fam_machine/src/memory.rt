@@ -1,9 +1,11 @@
 //! The bytes of items, in order of number.
 
-ghost use Rattle.std.specs.Prelude.{◌≡◌, ◌+◌, ◌-◌, ◌≤◌, length, map, take, filter, replicate, is_some, IsTrue, IfOk, OnOk, OnErr};
+ghost use Rattle.std.specs.Prelude.{◌≡◌, [], ◌+◌, ◌-◌, ◌≤◌, length, map, take, filter, replicate, is_some, IsTrue, IfOk, OnOk, OnErr};
 ghost use Rattle.std.specs.Option.{option_copied, option_map};
 ghost use Rattle.std.specs.List.Sorted.{IsStrictlyIncreasing};
-ghost use Rattle.fam_model.specs.Lists.{find_number, place_of};
+ghost use Rattle.fam_model.specs.Lists.{drop_number, find_number, place_of};
+ghost use Rattle.fam_model.specs.declared.rows.Rows.{Rows};
+ghost use Rattle.fam_machine.specs.Sound as sound;
 ghost use Rattle.fam_model.specs.PieceStep as steps;
 ghost use Rattle.fam_model.specs.Atomic.{bytes_after};
 ghost use Rattle.fam_machine.specs.Sound.{is_sound_kind, IsMemoryOf, IsSoundAtomic, zero_bytes};
@@ -13,6 +15,7 @@ ghost use Rattle.fam_model.specs.Opened as opening;
 ghost use Rattle.fam_model.specs.Rows.{IsLawful, item_of};
 
 use fam_base::{Bytes, ItemId, NoMemory, Sequence};
+use fam_directory::IndexedRows;
 use fam_model::{Change, Op, PieceKind, PlanPiece, Rows, Width};
 use std::alloc::Global;
 use std::mem;
@@ -116,13 +119,54 @@ fn apply_atomic(
 }
 
 /// Drops the bytes of items that are not there.
-fn drop_gone(alloc: Global, memory: &mut Memory, rows: &Rows)
-    requires { IsLawful rows.now }
+fn drop_gone(alloc: Global, memory: &mut Memory, rows: &IndexedRows)
     ensures { memory.new ≡ filter (λ entry. is_some (item_of rows.now entry.0.0)) memory.old }
 {
     let mut entries = mem::replace(memory, Sequence::new(alloc)).into_vec();
-    entries.retain(|entry| fam_rows::item(rows, entry.0).is_some());
+    entries.retain(|entry| rows.item(entry.0).is_some());
     *memory = Sequence::from_vec(entries);
+}
+
+/// Drops the bytes of an item.
+fn drop_entry(alloc: Global, memory: &mut Memory, item: ItemId)
+    requires { IsStrictlyIncreasing (map steps.entry_number memory.old) }
+    ensures { memory.new ≡ drop_number steps.entry_number item.0 memory.old }
+{
+    if let Some(at) = place(memory, item) {
+        let mut entries = mem::replace(memory, Sequence::new(alloc)).into_vec();
+        let _gone = entries.remove(at);
+        *memory = Sequence::from_vec(entries);
+    }
+}
+
+/// The item that a change takes away.
+fn taken_item(change: &Change) -> Option<ItemId>
+    ensures { result ≡ sound.taken_item change.now }
+{
+    match change {
+        Change::Deallocate { item } => Some(*item),
+        _ => None,
+    }
+}
+
+/// Whether a change takes away all items of a region.
+fn takes_region(change: &Change) -> bool
+    ensures { result ≡ sound.takes_region change.now }
+{
+    matches!(change, Change::DestroyRegion { .. })
+}
+
+/// Drops the bytes of the items that a change took away. It made none.
+fn drop_taken(alloc: Global, memory: &mut Memory, rows: &IndexedRows, change: &Change)
+    requires follows { (old : Rows) × IsLawful old × IsMemoryOf old.items memory.old × (rows.now ≡ directory.after old change.now) }
+    requires makes_none { directory.new_bytes change.now ≡ [] }
+    ensures { memory.new ≡ filter (λ entry. is_some (item_of rows.now entry.0.0)) memory.old }
+{
+    match taken_item(change) {
+        Some(item) => drop_entry(alloc, memory, item),
+        None if takes_region(change) => drop_gone(alloc, memory, rows),
+        None => {}
+    }
 }
 
 /// Drops the last entry.
@@ -165,7 +209,7 @@ pub fn zero_memory(alloc: Global, rows: &Rows) -> Result<Memory, NoMemory>
 /// Makes a lawful change of the directory and of memory. Where memory is wanting both stay as they are.
 pub fn change(
     alloc: Global,
-    rows: &mut Rows,
+    rows: &mut IndexedRows,
     memory: &mut Memory,
     change: Change,
 ) -> Result<(), NoMemory>
@@ -180,15 +224,15 @@ pub fn change(
     match new_item(&change) {
         Some((item, size)) => {
             memory.push((item, zeros(alloc, size)?))?;
-            let result = fam_rows::apply(alloc, rows, change);
+            let result = rows.apply(&change);
             if result.is_err() {
                 drop_last(alloc, memory);
             }
             result
         }
         None => {
-            fam_rows::apply(alloc, rows, change)?;
-            drop_gone(alloc, memory, rows);
+            rows.apply(&change)?;
+            drop_taken(alloc, memory, rows, &change);
             Ok(())
         }
     }

@@ -6,16 +6,18 @@ ghost use Rattle.fam_model.specs.declared.event.What.TheVariants as what;
 ghost use Rattle.fam_rows.specs.Laws.{asked_mode};
 ghost use Rattle.fam_machine.specs.Views.{state_of, turn_at, effect_at};
 ghost use Rattle.fam_model.specs.Directory.{refusal};
+ghost use Rattle.fam_model.specs.History.{change_in};
 ghost use Rattle.fam_model.specs.MetaStep as steps;
 ghost use Rattle.fam_model.specs.Rows.{IsLawful};
 ghost use Rattle.fam_machine.specs.Sound.{call_mode, IsMemoryOf, IsSound};
-ghost use Rattle.fam_machine.specs.Effects.{Tells, told_if, Answers, Takes};
+ghost use Rattle.fam_machine.specs.Effects.{Tells, told_if, Answers, IsLawfulHere, Takes};
 
 use crate::error::StepError;
 use crate::memory::{self, Memory};
 use crate::parts::Parts;
 use fam_base::{NoMemory, Who};
-use fam_model::{Change, MetaCall, Reply, Request, Rows};
+use fam_directory::IndexedRows;
+use fam_model::{Change, MetaCall, Reply, Request};
 use std::alloc::Global;
 
 /// What a reply tells of its request.
@@ -62,8 +64,7 @@ fn unchanged(is_right: bool) -> Told
 
 /// What the reply to a request that is not refused and finds nothing tells.
 fn told_change(
-    alloc: Global,
-    rows: &Rows,
+    rows: &IndexedRows,
     who: Who,
     request: &Request,
     given: &Reply,
@@ -73,10 +74,10 @@ fn told_change(
     ensures { IfOk result (λ told. told ≡ steps.told_change rows.now who request.now given.now) }
 {
     let base = told_base(given);
-    let Some(chosen) = fam_rows::change_at(alloc, rows, who, request, base)? else {
+    let Some(chosen) = rows.change_at(who, request, base)? else {
         return Ok(None);
     };
-    if fam_rows::may_lie(rows, request, base) && *given == fam_rows::answer(&chosen) {
+    if rows.may_lie(request, base) && *given == fam_rows::answer(&chosen) {
         Ok(Some(chosen))
     } else {
         Ok(None)
@@ -85,8 +86,7 @@ fn told_change(
 
 /// What a reply tells of its request.
 pub fn tell(
-    alloc: Global,
-    rows: &Rows,
+    rows: &IndexedRows,
     who: Who,
     request: &Request,
     given: &Reply,
@@ -94,22 +94,47 @@ pub fn tell(
     requires lawful { IsLawful rows.now }
     ensures { IfOk result (Tells rows.now who request.now given.now) }
 {
-    if let Some(error) = fam_rows::refusal(rows, who, request) {
+    if let Some(error) = rows.refusal(who, request) {
         return Ok(unchanged(*given == Reply::Error(error)));
     }
-    if let Some(reply) = fam_rows::found(alloc, rows, request)? {
+    if let Some(reply) = rows.found(request)? {
         return Ok(unchanged(*given == reply));
     }
-    match told_change(alloc, rows, who, request, given)? {
+    match told_change(rows, who, request, given)? {
         Some(chosen) => Ok(Told::Serves(chosen)),
         None => Ok(Told::Wrong),
+    }
+}
+
+/// The change that a call with this reply would serve, if it would serve one.
+pub fn change_of(
+    alloc: Global,
+    parts: &Parts,
+    pe: usize,
+    asked: &MetaCall,
+    given: &Reply,
+) -> Result<Option<Change>, NoMemory>
+    requires sound { IsSound (state_of parts.now) }
+    requires mode { call_mode asked.now ≤ 511 }
+    ensures change { IfOk result (λ found. found ≡ change_in (state_of parts.now) pe (what.Meta asked.now given.now)) }
+    ensures lawful { IfOk result (IsLawfulHere parts.now.rows) }
+{
+    let Some(program) = parts.programs.get(pe) else {
+        return Ok(None);
+    };
+    let Some(request) = program.request_of(alloc, asked)? else {
+        return Ok(None);
+    };
+    match tell(&parts.rows, program.who(), &request, given)? {
+        Told::Serves(chosen) => Ok(Some(chosen)),
+        Told::Right | Told::Wrong => Ok(None),
     }
 }
 
 /// Makes the change that a reply tells, if it is right.
 fn answer(
     alloc: Global,
-    rows: &mut Rows,
+    rows: &mut IndexedRows,
     memory: &mut Memory,
     who: Who,
     request: &Request,
@@ -121,7 +146,7 @@ fn answer(
     requires mode { asked_mode request.now ≤ 511 }
     ensures { Answers rows.old memory.old who request.now given.now rows.new memory.new result }
 {
-    match tell(alloc, rows, who, request, given)? {
+    match tell(rows, who, request, given)? {
         Told::Wrong => Err(StepError::Illegal(2)),
         Told::Right => Ok(()),
         Told::Serves(chosen) => {

@@ -20,8 +20,9 @@ use crate::error::StepError;
 use crate::issue::{issue_data, issue_other};
 use crate::parts::Parts;
 use crate::refused::refused;
+use fam_directory::IndexedRows;
 use fam_layout::Layout;
-use fam_model::{Call, Reply, Rows, Started, What};
+use fam_model::{Call, Reply, Started, What};
 use fam_program::Program;
 use std::alloc::Global;
 
@@ -102,7 +103,7 @@ pub fn answer(program: &mut Program, round: u64, given: &Reply) -> Result<(), St
 fn issue(
     alloc: Global,
     layout: &Layout,
-    rows: &Rows,
+    rows: &IndexedRows,
     program: &mut Program,
     asked: &Call,
     given: &Reply,
@@ -126,7 +127,7 @@ fn issue(
 pub fn plain_step(
     alloc: Global,
     layout: &Layout,
-    rows: &Rows,
+    rows: &IndexedRows,
     round: u64,
     program: &mut Program,
     call: u64,

@@ -9,7 +9,8 @@ ghost use Rattle.fam_machine.specs.Effects.{Steps};
 use crate::answers::exceeds_history;
 use crate::error::StepError;
 use fam_base::{FamError, NoMemory};
-use fam_model::{Call, MetaCall, Rows};
+use fam_directory::IndexedRows;
+use fam_model::{Call, MetaCall};
 use fam_program::Program;
 use std::alloc::Global;
 
@@ -19,7 +20,7 @@ const JOURNAL: u128 = 16_777_216;
 /// Whether the directory or the barrier would serve the call.
 fn would_serve(
     alloc: Global,
-    rows: &Rows,
+    rows: &IndexedRows,
     round: u64,
     program: &Program,
     asked: &Call,
@@ -29,7 +30,7 @@ fn would_serve(
 {
     match asked {
         Call::Meta(asked) => match program.request_of(alloc, asked)? {
-            Some(request) => Ok(fam_rows::refusal(rows, program.who(), &request).is_none()),
+            Some(request) => Ok(rows.refusal(program.who(), &request).is_none()),
             None => Ok(false),
         },
         Call::Barrier => Ok(program.may_arrive(round)),
@@ -84,7 +85,7 @@ fn may_refuse(asked: &Call, error: FamError, doubt: bool) -> bool
 /// A call that would be served is refused.
 pub fn refused(
     alloc: Global,
-    rows: &Rows,
+    rows: &IndexedRows,
     round: u64,
     program: &mut Program,
     asked: &Call,

@@ -371,7 +371,7 @@ fn a_barrier_waits_for_its_members(rt: HostRuntime) -> Result<(), Fail> {
 #[test]
 fn the_common_item_is_there(rt: HostRuntime) -> Result<(), Fail> {
     let play = Play::new(rt.alloc())?;
-    assert_eq!(rt; play.machine.rows().next_item, 1);
+    assert_eq!(rt; play.machine.rows().next_item(), 1);
     assert_eq!(rt;
         play.machine.item(ItemId(0)).map(|bytes| bytes.len()),
         Some(4096)

@@ -62,9 +62,9 @@ pub record OfLoss (event : Event) : Type 0 where
   pub name : PieceName
   pub is : event ≡ loss name
 
--- an event that a schedule gives
-abbrev pub Comes : Script → Run → Event → Type 0
-Comes script run event = OfProgram script run event ⊎ (OfPiece run event ⊎ OfLoss event)
+-- an event that is due under a schedule
+abbrev pub IsDue : Script → Run → Event → Type 0
+IsDue script run event = OfProgram script run event ⊎ (OfPiece run event ⊎ OfLoss event)
 
 abbrev the_event : Step → Event
 the_event s = s.0
@@ -100,7 +100,7 @@ of_program script run pe event h =
     let w = when_some (is_some (step service_limits run.now c.0)) c.0 event c.2 in
     record { pe = pe; p = b.0; there = b.1; next = c.1 ∙ ap Some w.1 }
 
-of_actor : (script : Script) (run : Run) (actor : Actor) (words : Lcg) (s : Step) → acts script run actor words ≡ Some s → Comes script run s.0
+of_actor : (script : Script) (run : Run) (actor : Actor) (words : Lcg) (s : Step) → acts script run actor words ≡ Some s → IsDue script run s.0
 of_actor script run (Program pe) words s h = inl (of_program script run pe s.0 (with_words_some words (program_event script run pe) s h))
 of_actor script run (Stripe stripe) words s h =
     let ready = ready_on run.now stripe in
@@ -109,7 +109,7 @@ of_actor script run (Stripe stripe) words s h =
     inr (of_taken (is_orphan run.now b.0) ((pcg32 choice.1).0 % 2 == 1) run b.0 choice.1 (pcg32 choice.1).1 s b.2)
 
 -- the event that comes next is the next one of a program, or of a piece
-pub comes_next : (script : Script) (run : Run) (s : Step) → next_step script run ≡ Some s → Comes script run s.0
+pub comes_next : (script : Script) (run : Run) (s : Step) → next_step script run ≡ Some s → IsDue script run s.0
 comes_next script run s h =
     let choice = drawn (length (actors script run)) run.words in
     let b = bind_some (slice_get (actors script run) choice.0) (λ actor. acts script run actor choice.1) s h in
@@ -205,7 +205,7 @@ after_tame script run pe p (begun.Barrier c) event h =
     let same : event_of pe c (what.Answer reply.Passed) ≡ event = cc in
     ap (λ e. is_tame e.what) (sym same)
 
-pub comes_tame : (script : Script) (run : Run) (event : Event) → Comes script run event → is_tame event.what ≡ true
+pub comes_tame : (script : Script) (run : Run) (event : Event) → IsDue script run event → is_tame event.what ≡ true
 comes_tame script run event (inl o) = after_tame script run o.pe o.p o.p.started event o.next
 comes_tame script run event (inr (inl o)) =
     ap (λ e. is_tame e.what) o.is ∙ due_tame run.now.rows run.now.memory o.p.who o.at.operation.kind o.left.piece o.name.piece

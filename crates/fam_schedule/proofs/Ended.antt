@@ -72,7 +72,7 @@ pub record Made (script : Script) (run : Run) : Type 0 where
 
 leads_made : (script : Script) (run : Run) (history : List Event) (end : Run) → is_lawful script.service ≡ true → Made script run → LeadsTo script run history end → Made script end
 leads_made script run [] end lawful made leads = subst (Made script) (sym leads) made
-leads_made script run (event ∷ history) end lawful made (words, next, chosen, steps, leads) =
+leads_made script run (event ∷ history) end lawful made (due, words, next, chosen, comes, steps, leads) =
     let here : is_lawful run.now.service ≡ true = ap is_lawful made.service ∙ lawful in
     leads_made script (went_on run event next words) history end lawful
     (record {

@@ -4,6 +4,7 @@ pub mod Moves
 pub mod Places
 pub mod Follows
 pub mod Comes
+pub mod Refusals
 pub mod Tame
 pub mod Runs
 pub mod Whole
@@ -25,3 +26,5 @@ pub mod Has
 pub mod Lives
 pub mod Living
 pub mod RunEnds
+pub mod Unrefused
+pub mod Refusable

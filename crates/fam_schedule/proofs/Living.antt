@@ -44,7 +44,8 @@ use Rattle.fam_schedule.proofs.Told.{speaks, told_as, calls_made, calls_answered
 use Rattle.fam_schedule.proofs.Moves.{started_after, number_after, step_moves}
 use Rattle.fam_schedule.proofs.Places.{get_set_other}
 use Rattle.fam_schedule.proofs.Follows.{Tells, Settled, Awaits}
-use Rattle.fam_schedule.proofs.Comes.{Comes, first_makes}
+use Rattle.fam_schedule.proofs.Comes.{first_makes}
+use Rattle.fam_schedule.proofs.Refusals.{IsRefused, IsDueOrRefused, disk_refusal, refused_at}
 use Rattle.fam_schedule.proofs.Runs.{TellsOne, TellsAll, IsReplied, IsBegun, leaves, counted_up, equal, event_of_program, apart_not_mine, silent_not_mine, differ}
 use Rattle.fam_schedule.proofs.Texts.{ends, goes_on}
 use Rattle.fam_schedule.proofs.Rests.{Rests, step_rests, standing_after, arrived_after, round_of}
@@ -126,19 +127,18 @@ issue_of state next pe n c op p q was there h =
         subst (λ x. HasCall x p.next_call) w.1 (issued_has state.service p b.0 c op true b.1)
 
 call_runs : (text : Text) (run : Run) (pe : ℕ) (p q : ProgramState) (next : State) (made : What) (asked : Call) → Own run.now pe p p.next_call made next q → Settled text pe p.next_call run.before →
-    has_arrived run.now.round p ≡ false → next_call text (replies_to run.before pe) ≡ Some asked → first_event run.now.service run.now.rows p asked ≡ Some made → call_made made ≡ Some asked →
+    has_arrived run.now.round p ≡ false → next_call text (replies_to run.before pe) ≡ Some asked → call_made made ≡ Some asked → (is_running q.standing ≡ true → ends asked ≡ false) →
     is_running q.standing ≡ true → IsReplied p made ⊎ IsBegun p made → RunsBy text (run.before ++ event_of pe p.next_call made ∷ []) pe next.round q q.started
-call_runs text run pe p q next made asked own s not due first makes running (inl r) =
+call_runs text run pe p q next made asked own s not due makes past running (inl r) =
     let event = event_of pe p.next_call made in
     let later = run.before ++ event ∷ [] in
     let more = calls_made run.before pe p.next_call event asked s.below (equal pe) (le_refl p.next_call) makes ∙ ap (λ g. calls run.before pe ++ told_as asked g ∷ []) r.reply_is in
     let replies = replies_more run.before later pe asked r.given more in
-    let past = not_ended run.now.service run.now.rows run.now.round p q asked made first own.rests running in
-    let some = goes_on (flat_map written_out text.statements) (replies_to run.before pe) asked r.given due past in
+    let some = goes_on (flat_map written_out text.statements) (replies_to run.before pe) asked r.given due (past running) in
     let quiet = quiet_event run.now next p q made r.given r.reply_is own.rests running own.round in
     subst (λ x. RunsBy text later pe next.round q x) (sym (own.moved.started ∙ r.nothing))
     (ap (λ rs. is_some (next_call text rs)) replies ∙ some, not_arrived_as run.now.round next.round p q quiet.0 quiet.1 not)
-call_runs text run pe p q next made asked own s not due first makes running (inr (none, inl (c, op, is))) =
+call_runs text run pe p q next made asked own s not due makes past running (inr (none, inl (c, op, is))) =
     let later = run.before ++ event_of pe p.next_call made ∷ [] in
     let effects : effect service_limits run.now pe p p.next_call (what.Issue (call.Data c op true) reply.Issued) ≡ Some next =
     subst (λ w. effect service_limits run.now pe p p.next_call w ≡ Some next) is own.effects in
@@ -146,7 +146,7 @@ call_runs text run pe p q next made asked own s not due first makes running (inr
     let round : next.round ≡ run.now.round = own.round ∙ ap (λ w. round_of run.now w next) is in
     subst (λ x. RunsBy text later pe next.round q x) (sym (own.moved.started ∙ ap (started_after p) is))
     (issue_of run.now next pe p.next_call c op p q own.was own.there effects, not_arrived_as run.now.round next.round p q round rests.arrived_is not)
-call_runs text run pe p q next made asked own s not due first makes running (inr (none, inr is)) =
+call_runs text run pe p q next made asked own s not due makes past running (inr (none, inr is)) =
     let later = run.before ++ event_of pe p.next_call made ∷ [] in
     let arrived : q.arrived ≡ Some run.now.round = own.rests.arrived_is ∙ ap (arrived_after run.now.round p) is in
     subst (λ x. RunsBy text later pe next.round q x) (sym (own.moved.started ∙ ap (started_after p) is)) (run.now.round, arrived)
@@ -156,10 +156,9 @@ one_more xs x = length-append xs (x ∷ [])
 
 call_lives : (text : Text) (run : Run) (words : Lcg) (pe : ℕ) (p q : ProgramState) (next : State) (made : What) (asked : Call) → Own run.now pe p p.next_call made next q →
     Settled text pe p.next_call run.before → Lives text run pe p → has_arrived run.now.round p ≡ false → next_call text (replies_to run.before pe) ≡ Some asked →
-    first_event run.now.service run.now.rows p asked ≡ Some made → Lives text (went_on run (event_of pe p.next_call made) next words) pe q
-call_lives text run words pe p q next made asked own s live not due first =
+    call_made made ≡ Some asked → (is_running q.standing ≡ true → ends asked ≡ false) → Lives text (went_on run (event_of pe p.next_call made) next words) pe q
+call_lives text run words pe p q next made asked own s live not due makes past =
     let event = event_of pe p.next_call made in
-    let makes : call_made made ≡ Some asked = (first_makes run.now.service run.now.rows p asked made first).0 in
     let more = calls_made run.before pe p.next_call event asked s.below (equal pe) (le_refl p.next_call) makes in
     let number : q.next_call ≡ p.next_call + 1 = own.moved.number ∙ counted_up p made asked makes in
     let longer : length (calls (run.before ++ event ∷ []) pe) ≡ length (calls run.before pe) + 1 = ap length more ∙ one_more (calls run.before pe) (told_as asked (reply_made made)) in
@@ -167,7 +166,7 @@ call_lives text run words pe p q next made asked own s live not due first =
       local = own.rests.is_local ∙ live.local;
       count = longer ∙ ap (λ n. n + 1) live.count ∙ sym number;
       low = arrived_low run.now.round next.round p q made live.low own.rests (moves own.round);
-      runs = λ running. call_runs text run pe p q next made asked own s not due first makes running (leaves p made asked makes);
+      runs = λ running. call_runs text run pe p q next made asked own s not due makes past running (leaves p made asked makes);
     }
   where
     moves : next.round ≡ round_of run.now made next → (next.round ≡ run.now.round) ⊎ (next.round ≡ run.now.round + 1)
@@ -233,7 +232,9 @@ own_lives script run text words pe p q event next begun.Nothing there was starte
     let due : next_call text (replies_to run.before pe) ≡ Some c.0 = ap (λ t. next_call t (replies_to run.before pe)) (sym text_is) ∙ c.1 in
     let by : RunsBy text run.before pe run.now.round p begun.Nothing = subst (λ x. RunsBy text run.before pe run.now.round p x) started (live.runs running) in
     let own_is : Own run.now pe p p.next_call d.0 next q = subst (λ e. Own run.now pe p e.call e.what next q) (sym same) own in
-    subst (λ e. Lives text (went_on run e next words) pe q) same (call_lives text run words pe p q next d.0 c.0 own_is tells live by.1 due d.1)
+    let makes : call_made d.0 ≡ Some c.0 = (first_makes run.now.service run.now.rows p c.0 d.0 d.1).0 in
+    subst (λ e. Lives text (went_on run e next words) pe q) same
+    (call_lives text run words pe p q next d.0 c.0 own_is tells live by.1 due makes (not_ended run.now.service run.now.rows run.now.round p q c.0 d.0 d.1 own_is.rests))
 own_lives script run text words pe p q event next (begun.Operation c) there was started h own tells live running =
     let b = bind_some (placed p c) (λ at. Some (event_of pe c (what.Answer (result at.operation)))) event h in
     let same : event_of pe c (what.Answer (result b.0.operation)) ≡ event = same_some (event_of pe c (what.Answer (result b.0.operation))) event b.2 in
@@ -300,10 +301,23 @@ speaks_after script run pe p (begun.Barrier c) event h =
     let same : event_of pe c (what.Answer reply.Passed) ≡ event = same_some (event_of pe c (what.Answer reply.Passed)) event h in
     ap (λ e. speaks e.what) (sym same)
 
+-- the program's next call, refused by the disk
+refused_lives : (text : Text) (run : Run) (words : Lcg) (pe : ℕ) (p q : ProgramState) (event : Event) (next : State) → Own run.now pe p event.call event.what next q →
+    is_in_turn p event.call event.what ≡ true → Tells text pe p.next_call p.started run.before → Lives text run pe p → IsRefused text run pe p event → Lives text (went_on run event next words) pe q
+refused_lives text run words pe p q event next own turn tells live r =
+    let made = disk_refusal r.asked r.doubt in
+    let own_is : Own run.now pe p p.next_call made next q = subst (λ e. Own run.now pe p e.call e.what next q) r.is own in
+    let speaks_is : speaks event.what ≡ true = ap (λ e. speaks e.what) r.is in
+    let running : is_running p.standing ≡ true = runs_in_turn p event.call event.what turn speaks_is in
+    let by : RunsBy text run.before pe run.now.round p begun.Nothing = subst (λ x. RunsBy text run.before pe run.now.round p x) r.nothing (live.runs running) in
+    let settled : Settled text pe p.next_call run.before = subst (λ s. Tells text pe p.next_call s run.before) r.nothing tells in
+    subst (λ e. Lives text (went_on run e next words) pe q) (sym r.is)
+    (call_lives text run words pe p q next made (call.Meta r.asked) own_is settled live by.1 r.due refl (λ still. refl))
+
 mine_lives : (script : Script) (run : Run) (text : Text) (words : Lcg) (p q : ProgramState) (event : Event) (next : State) → slice_get script.programs event.pe.0 ≡ Some text →
     step service_limits run.now event ≡ Some next → program_of run.now event.pe.0 ≡ Some p → program_of next event.pe.0 ≡ Some q →
-    Tells text event.pe.0 p.next_call p.started run.before → Lives text run event.pe.0 p → Comes script run event → Lives text (went_on run event next words) event.pe.0 q
-mine_lives script run text words p q event next there steps was now tells live (inl o) =
+    Tells text event.pe.0 p.next_call p.started run.before → Lives text run event.pe.0 p → IsDueOrRefused script run event → Lives text (went_on run event next words) event.pe.0 q
+mine_lives script run text words p q event next there steps was now tells live (inl (inl o)) =
     let own = own_of run.now next event p q steps was now in
     let at : o.pe ≡ event.pe.0 = sym (event_of_program script run o.pe o.p o.p.started event o.next) in
     let p_is : o.p ≡ p = same_some o.p p (sym o.there ∙ ap (program_of run.now) at ∙ was) in
@@ -314,7 +328,7 @@ mine_lives script run text words p q event next there steps was now tells live (
     let running : is_running p.standing ≡ true =
     runs_in_turn p event.call event.what (subst (λ x. is_in_turn x event.call event.what ≡ true) m_is m.turn) (speaks_after script run event.pe.0 p p.started event comes) in
     own_lives script run text words event.pe.0 p q event next p.started there was refl comes own tells live running
-mine_lives script run text words p q event next there steps was now tells live (inr (inl o)) =
+mine_lives script run text words p q event next there steps was now tells live (inl (inr (inl o))) =
     let own = own_of run.now next event p q steps was now in
     let j = o.name.piece in
     let is : event.what ≡ what.Piece j _ = ap (λ e. e.what) o.is in
@@ -323,7 +337,7 @@ mine_lives script run text words p q event next there steps was now tells live (
     (own.round ∙ ap (λ w. round_of run.now w next) is) own.rests.is_local (own.rests.standing_is ∙ ap (standing_after p) is) (own.rests.arrived_is ∙ ap (arrived_after run.now.round p) is)
     (own.moved.started ∙ ap (started_after p) is) (own.moved.number ∙ ap (number_after p) is)
     (piece_keeps run.now next event.pe.0 event.call j p q _ was (subst (λ w. effect service_limits run.now event.pe.0 p event.call w ≡ Some next) is own.effects) now)
-mine_lives script run text words p q event next there steps was now tells live (inr (inr o)) =
+mine_lives script run text words p q event next there steps was now tells live (inl (inr (inr o))) =
     let own = own_of run.now next event p q steps was now in
     let j = o.name.piece in
     let is : event.what ≡ what.Lose j = ap (λ e. e.what) o.is in
@@ -332,9 +346,15 @@ mine_lives script run text words p q event next there steps was now tells live (
     (own.round ∙ ap (λ w. round_of run.now w next) is) own.rests.is_local (own.rests.standing_is ∙ ap (standing_after p) is) (own.rests.arrived_is ∙ ap (arrived_after run.now.round p) is)
     (own.moved.started ∙ ap (started_after p) is) (own.moved.number ∙ ap (number_after p) is)
     (lose_keeps run.now next event.pe.0 event.call j p q was (subst (λ w. effect service_limits run.now event.pe.0 p event.call w ≡ Some next) is own.effects) now)
+mine_lives script run text words p q event next there steps was now tells live (inr o) =
+    let own = own_of run.now next event p q steps was now in
+    let m = step_moves service_limits run.now next event steps in
+    let m_is : m.was ≡ p = same_some m.was p (sym m.there ∙ was) in
+    refused_lives text run words event.pe.0 p q event next own (subst (λ x. is_in_turn x event.call event.what ≡ true) m_is m.turn) tells live
+    (refused_at script run event event.pe.0 text p refl there was o)
 
 lives_by : (mine : Bool) (script : Script) (run : Run) (text : Text) (words : Lcg) (pe : ℕ) (q : ProgramState) (event : Event) (next : State) → (event.pe.0 == pe) ≡ mine →
-    slice_get script.programs pe ≡ Some text → step service_limits run.now event ≡ Some next → program_of next pe ≡ Some q → TellsOne text run pe → LivesAll script run → Comes script run event →
+    slice_get script.programs pe ≡ Some text → step service_limits run.now event ≡ Some next → program_of next pe ≡ Some q → TellsOne text run pe → LivesAll script run → IsDueOrRefused script run event →
     Lives text (went_on run event next words) pe q
 lives_by true script run text words pe q event next e there steps now one all comes =
     let place : event.pe.0 ≡ pe = eqb-true event.pe.0 pe e in
@@ -356,7 +376,7 @@ lives_by false script run text words pe q event next e there steps now one all c
     as_round r (inr more) = inr (r ∙ more)
 
 -- with one event more all programs live on
-pub lives_next : (script : Script) (run : Run) (event : Event) (next : State) (words : Lcg) → TellsAll script run → LivesAll script run → Comes script run event →
+pub lives_next : (script : Script) (run : Run) (event : Event) (next : State) (words : Lcg) → TellsAll script run → LivesAll script run → IsDueOrRefused script run event →
     step service_limits run.now event ≡ Some next → LivesAll script (went_on run event next words)
 lives_next script run event next words tells all comes steps pe text q there now =
     lives_by (event.pe.0 == pe) script run text words pe q event next refl there steps now (tells pe text there) all comes

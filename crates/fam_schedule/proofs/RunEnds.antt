@@ -32,13 +32,13 @@ use Rattle.fam_model.specs.Opened.{new_program}
 use Rattle.fam_model.specs.Programs.{program_of, with_program, with_placed, Placed, placed, is_running, is_member, has_arrived, has_passed, is_complete, round_after}
 use Rattle.fam_model.specs.Step.{step, effect}
 use Rattle.fam_schedule.specs.Schedule.{Run, LeadsTo, IsScheduled, new_run, went_on, replies_to, program_event, event_after, event_of}
-use Rattle.fam_schedule.proofs.Comes.{Comes, comes_next}
+use Rattle.fam_schedule.proofs.Refusals.{IsDueOrRefused, comes_instead}
 use Rattle.fam_schedule.proofs.Finding.{get_zero, get_next, any_at_place}
 use Rattle.fam_schedule.proofs.Changes.{set_at}
 use Rattle.fam_schedule.proofs.Lives.{Lives, LivesAll, arrived_low}
 use Rattle.fam_schedule.proofs.Living.{lives_next}
 use Rattle.fam_schedule.proofs.Rests.{Rests, step_rests, standing_after, arrived_after, round_of}
-use Rattle.fam_schedule.proofs.Runs.{TellsAll, tells_next}
+use Rattle.fam_schedule.proofs.Runs.{TellsAll, tells_instead}
 use Rattle.fam_schedule.proofs.Staying.{IsLow, complete_set, after_incomplete}
 use Rattle.fam_schedule.proofs.Whole.{tells_new, opened_program, leads_ends}
 use Rattle.fam_schedule.specs.Laws.{IsStill}
@@ -125,7 +125,7 @@ incomplete_by state next pe p q made there programs round rests before low = by_
     by_event (what.Lose j) r e = still (what.Lose j) r refl refl e
     by_event (what.Refused a f d) r e = still (what.Refused a f d) r refl refl e
 
-between_next : (script : Script) (run : Run) (event : Event) (next : State) (words : Lcg) → Between script run → Comes script run event → step service_limits run.now event ≡ Some next →
+between_next : (script : Script) (run : Run) (event : Event) (next : State) (words : Lcg) → Between script run → IsDueOrRefused script run event → step service_limits run.now event ≡ Some next →
     Between script (went_on run event next words)
 between_next script run event next words b comes steps =
     let r = step_rests service_limits run.now next event steps in
@@ -133,7 +133,7 @@ between_next script run event next words b comes steps =
     let was_low = low event.pe.0 r.was r.there in
     let is_low : IsLow run.now.round r.after.is = arrived_low run.now.round run.now.round r.was r.after.is event.what was_low r.after.rests (inl refl) in
     record {
-      tells = tells_next script run event next words b.tells comes steps;
+      tells = tells_instead script run event next words b.tells comes steps;
       lives = lives_next script run event next words b.tells b.lives comes steps;
       size = ap length r.after.programs ∙ length-set run.now.programs event.pe.0 r.after.is ∙ b.size;
       incomplete = incomplete_by run.now next event.pe.0 r.was r.after.is event.what r.there r.after.programs r.after.round r.after.rests b.incomplete
@@ -205,9 +205,9 @@ between_new rows script seed =
 
 leads_between : (script : Script) (run : Run) (history : List Event) (end : Run) → Between script run → LeadsTo script run history end → Between script end
 leads_between script run [] end b leads = subst (Between script) (sym leads) b
-leads_between script run (event ∷ history) end b (words, next, chosen, steps, leads) =
-    let comes = comes_next script run (event, words) chosen in
-    leads_between script (went_on run event next words) history end (between_next script run event next words b comes steps) leads
+leads_between script run (event ∷ history) end b (due, words, next, chosen, comes, steps, leads) =
+    let instead = comes_instead script run due event words chosen comes in
+    leads_between script (went_on run event next words) history end (between_next script run event next words b instead steps) leads
 
 -- the end
 

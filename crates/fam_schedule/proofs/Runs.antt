@@ -26,13 +26,14 @@ use Rattle.fam_model.specs.Step.{step}
 use Rattle.fam_model.specs.Text.{next_call, is_call}
 use Rattle.fam_model.specs.Turn.{call_made}
 use Rattle.fam_model.specs.contracts.call.CallEq.TheImpl.Laws as call_laws
-use Rattle.fam_schedule.specs.Schedule.{Run, event_of, event_after, first_event, replies_to, went_on}
+use Rattle.fam_schedule.specs.Schedule.{Run, Comes, next_step, event_of, event_after, first_event, replies_to, went_on}
 use Rattle.fam_schedule.proofs.Options.{bind_some}
 use Rattle.fam_schedule.proofs.Told.{speaks, is_mine}
 use Rattle.fam_schedule.proofs.Moves.{started_after, number_after, Moved, Moves, step_moves}
 use Rattle.fam_schedule.proofs.Places.{get_set_same, get_set_other}
 use Rattle.fam_schedule.proofs.Follows.{Tells, Settled, Awaits, tells_skip, tells_replied, tells_started, tells_answered}
-use Rattle.fam_schedule.proofs.Comes.{Comes, first_makes}
+use Rattle.fam_schedule.proofs.Comes.{IsDue, first_makes}
+use Rattle.fam_schedule.proofs.Refusals.{IsRefused, IsDueOrRefused, comes_instead, disk_refusal, refused_at}
 
 -- what holds of each program of a run
 pub record TellsOne (text : Text) (run : Run) (pe : ℕ) : Type 0 where
@@ -245,24 +246,54 @@ event_of_program script run pe p (begun.Barrier c) event h =
     let same : event_of pe c (what.Answer reply.Passed) ≡ event = cc in
     ap (λ e. e.pe.0) (sym same)
 
+-- the program whose next call the disk refuses
+refused_one : (text : Text) (run : Run) (event : Event) (next : State) (words : Lcg) (pe : ℕ) → (one : TellsOne text run pe) → (moves : Moves run.now event next) → event.pe.0 ≡ pe →
+    IsRefused text run pe one.p event → TellsOne text (went_on run event next words) pe
+refused_one text run event next words pe one moves same r =
+    let p = one.p in
+    let made = disk_refusal r.asked r.doubt in
+    let was_there : program_of run.now pe ≡ Some moves.was = subst (λ k. program_of run.now k ≡ Some moves.was) same moves.there in
+    let was_is : moves.was ≡ p = some_same moves.was p (sym was_there ∙ one.there) in
+    let moved : Moved p event.what moves.is = subst (λ q. Moved q event.what moves.is) was_is moves.moved in
+    let moved_by : Moved p made moves.is = subst (λ e. Moved p e.what moves.is) r.is moved in
+    let settled : Settled text pe p.next_call run.before = subst (λ s. Tells text pe p.next_call s run.before) r.nothing one.tells in
+    let due : is_call (next_call text (replies_to run.before pe)) (call.Meta r.asked) ≡ true = ap (λ o. is_call o (call.Meta r.asked)) r.due ∙ same_call_twice (call.Meta r.asked) in
+    record {
+      p = moves.is;
+      there = ap (λ ps. slice_get ps pe) (moves.programs ∙ ap (λ k. slice_set run.now.programs k moves.is) same) ∙ get_set_same run.now.programs pe p moves.is one.there;
+      tells = subst (λ e. Tells text pe moves.is.next_call moves.is.started (run.before ++ e ∷ [])) (sym r.is)
+          (made_tells text pe p moves.is run.before made (call.Meta r.asked) settled refl due moved_by (leaves p made (call.Meta r.asked) refl));
+    }
+
 mine_one : (script : Script) (text : Text) (run : Run) (event : Event) (next : State) (words : Lcg) (pe : ℕ) → slice_get script.programs pe ≡ Some text → TellsOne text run pe →
-    (moves : Moves run.now event next) → event.pe.0 ≡ pe → Comes script run event → TellsOne text (went_on run event next words) pe
-mine_one script text run event next words pe text_there one moves same (inl o) =
+    (moves : Moves run.now event next) → event.pe.0 ≡ pe → IsDueOrRefused script run event → TellsOne text (went_on run event next words) pe
+mine_one script text run event next words pe text_there one moves same (inl (inl o)) =
     let at : o.pe ≡ pe = sym (event_of_program script run o.pe o.p o.p.started event o.next) ∙ same in
     own_one script text run event next words pe text_there one moves same o.p
     (subst (λ k. program_of run.now k ≡ Some o.p) at o.there) (subst (λ k. event_after script run k o.p o.p.started ≡ Some event) at o.next)
-mine_one script text run event next words pe text_there one moves same (inr (inl o)) =
+mine_one script text run event next words pe text_there one moves same (inl (inr (inl o))) =
     piece_one text run event next words pe one moves same (ap (λ e. speaks e.what) o.is) (ap (λ e. started_after moves.was e.what) o.is) (ap (λ e. number_after moves.was e.what) o.is)
-mine_one script text run event next words pe text_there one moves same (inr (inr o)) =
+mine_one script text run event next words pe text_there one moves same (inl (inr (inr o))) =
     piece_one text run event next words pe one moves same (ap (λ e. speaks e.what) o.is) (ap (λ e. started_after moves.was e.what) o.is) (ap (λ e. number_after moves.was e.what) o.is)
+mine_one script text run event next words pe text_there one moves same (inr o) =
+    refused_one text run event next words pe one moves same (refused_at script run event pe text one.p same text_there one.there o)
 
 one_by : (mine : Bool) (script : Script) (text : Text) (run : Run) (event : Event) (next : State) (words : Lcg) (pe : ℕ) → (event.pe.0 == pe) ≡ mine →
-    slice_get script.programs pe ≡ Some text → TellsOne text run pe → Moves run.now event next → Comes script run event → TellsOne text (went_on run event next words) pe
+    slice_get script.programs pe ≡ Some text → TellsOne text run pe → Moves run.now event next → IsDueOrRefused script run event → TellsOne text (went_on run event next words) pe
 one_by true script text run event next words pe e there one moves comes = mine_one script text run event next words pe there one moves (eqb-true event.pe.0 pe e) comes
 one_by false script text run event next words pe e there one moves comes = other_one text run event next words pe one moves e
 
 -- with one event more the calls of each program still follow its text
-pub tells_next : (script : Script) (run : Run) (event : Event) (next : State) (words : Lcg) → TellsAll script run → Comes script run event →
+
+pub tells_instead : (script : Script) (run : Run) (event : Event) (next : State) (words : Lcg) → TellsAll script run → IsDueOrRefused script run event →
     step service_limits run.now event ≡ Some next → TellsAll script (went_on run event next words)
-tells_next script run event next words all comes steps pe text there =
+tells_instead script run event next words all comes steps pe text there =
     one_by (event.pe.0 == pe) script text run event next words pe refl there (all pe text there) (step_moves service_limits run.now next event steps) comes
+
+pub tells_next : (script : Script) (run : Run) (event : Event) (next : State) (words : Lcg) → TellsAll script run → IsDue script run event →
+    step service_limits run.now event ≡ Some next → TellsAll script (went_on run event next words)
+tells_next script run event next words all due steps = tells_instead script run event next words all (inl due) steps
+
+pub tells_comes : (script : Script) (run : Run) (due event : Event) (words : Lcg) (next : State) → TellsAll script run → next_step script run ≡ Some (due, words) → Comes run.now due event →
+    step service_limits run.now event ≡ Some next → TellsAll script (went_on run event next words)
+tells_comes script run due event words next all chosen comes steps = tells_instead script run event next words all (comes_instead script run due event words chosen comes) steps

@@ -1,6 +1,6 @@
 -- The law: a history that the schedule gives is one legal run of its script.
-use Rattle.std.proofs.Common.{◌≡◌, ℕ, ◌+◌, ◌<◌, Bool, true, List, [], ◌∷◌, ◌++◌, refl, sym, ap, ◌∙◌, arith, append_assoc, append-nil, subst, suc}
-use Rattle.std.specs.Prelude.{◌&&◌, Option, Some, is_some, slice_get, map, length, nat_lt}
+use Rattle.std.proofs.Common.{◌≡◌, ℕ, ◌+◌, ◌<◌, ◌≤◌, Bool, true, List, [], ◌∷◌, ◌++◌, refl, sym, ap, ◌∙◌, arith, append_assoc, append-nil, subst, suc}
+use Rattle.std.specs.Prelude.{◌-◌, ◌^◌, ◌&&◌, Option, Some, is_some, slice_get, map, length, nat_lt}
 use Rattle.std.specs.List.{list_all, enumerate_from}
 use Rattle.std.specs.Option.{option_map}
 use Rattle.std.proofs.lemmas.List.FromFn.{length-enumerate_from, get_or-enumerate_from}
@@ -9,6 +9,7 @@ use Rattle.fam_base.specs.declared.naming.Who.{Who}
 use Rattle.fam_model.specs.declared.event.Event.{Event}
 use Rattle.fam_model.specs.declared.rows.Rows.{Rows}
 use Rattle.fam_model.specs.declared.script.Script.{Script}
+use Rattle.fam_model.specs.Earned.{disk_faults}
 use Rattle.fam_model.specs.Headline.{opening, follows_script, IsRun}
 use Rattle.fam_model.specs.History.{state_after, calls}
 use Rattle.fam_model.specs.Limits.{service_limits}
@@ -18,9 +19,9 @@ use Rattle.fam_model.specs.Step.{step}
 use Rattle.fam_model.specs.Text.{follows}
 use Rattle.fam_schedule.specs.Schedule.{Run, LeadsTo, IsScheduled, new_run, went_on}
 use Rattle.fam_schedule.proofs.Follows.{tells_follows}
-use Rattle.fam_schedule.proofs.Comes.{comes_next, comes_tame, is_tame}
-use Rattle.fam_schedule.proofs.Tame.{all_tame, tame_earned}
-use Rattle.fam_schedule.proofs.Runs.{TellsAll, tells_next}
+use Rattle.fam_schedule.proofs.Refusals.{comes_instead}
+use Rattle.fam_schedule.proofs.Tame.{all_have_room, has_room, instead_has_room, room_earned}
+use Rattle.fam_schedule.proofs.Runs.{TellsAll, tells_instead}
 
 -- the start
 
@@ -57,7 +58,7 @@ pub record Ends (script : Script) (run : Run) (history : List Event) (end : Run)
   pub tells : TellsAll script end
   pub before : end.before ≡ run.before ++ history
   pub reached : state_after service_limits run.now history ≡ Some end.now
-  pub tame : all_tame history ≡ true
+  pub room : all_have_room history ≡ true
 
 both_true : (a b : Bool) → a ≡ true → b ≡ true → (a && b) ≡ true
 both_true a b e f = rw (e, f) refl
@@ -71,16 +72,16 @@ leads_ends script run [] end all leads =
       tells = subst (TellsAll script) (sym leads) all;
       before = ap (λ r. r.before) leads ∙ sym (append-nil run.before);
       reached = ap (λ r. Some r.now) (sym leads);
-      tame = refl;
+      room = refl;
     }
-leads_ends script run (event ∷ history) end all (words, next, chosen, steps, leads) =
-    let comes = comes_next script run (event, words) chosen in
-    let later = leads_ends script (went_on run event next words) history end (tells_next script run event next words all comes steps) leads in
+leads_ends script run (event ∷ history) end all (due, words, next, chosen, comes, steps, leads) =
+    let instead = comes_instead script run due event words chosen comes in
+    let later = leads_ends script (went_on run event next words) history end (tells_instead script run event next words all instead steps) leads in
     record {
       tells = later.tells;
       before = later.before ∙ append_assoc run.before (event ∷ []) history;
       reached = bind_known (step service_limits run.now event) next (λ s. state_after service_limits s history) steps ∙ later.reached;
-      tame = both_true (is_tame event.what) (all_tame history) (comes_tame script run event comes) later.tame;
+      room = both_true (has_room event.what) (all_have_room history) (instead_has_room script run event instead) later.room;
     }
 
 -- the end
@@ -112,11 +113,12 @@ scheduled_follows script end all =
     ap (λ k. follows text (calls end.before k)) number ∙ tells_follows text pe one.p.next_call one.p.started end.before one.tells)
 
 -- a history that the schedule gives is one legal run of its script
-pub scheduled_is_run : (rows : Rows) (script : Script) (seed : ℕ) (history : List Event) (whole : Bool) → IsScheduled rows script seed history whole → IsRun rows script history 0 0
-scheduled_is_run rows script seed history whole s =
+pub scheduled_is_run : (rows : Rows) (script : Script) (seed : ℕ) (history : List Event) (whole : Bool) (faults_before faults_after : ℕ) → IsScheduled rows script seed history whole →
+    (faults_after < 2 ^ 64 - 1 → disk_faults (history ∷ []) + faults_before ≤ faults_after) → IsRun rows script history faults_before faults_after
+scheduled_is_run rows script seed history whole faults_before faults_after s faults =
     let ends = leads_ends script (new_run rows script seed) history s.end (tells_new rows script seed) s.leads in
     record {
       legal = ap is_some ends.reached;
       follows = ap (follows_script script) (sym ends.before) ∙ scheduled_follows script s.end ends.tells;
-      earned = tame_earned (opening rows script) s.end.now history ends.reached ends.tame;
+      earned = room_earned (opening rows script) s.end.now history faults_before faults_after ends.reached ends.room faults;
     }

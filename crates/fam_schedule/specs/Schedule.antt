@@ -1,12 +1,14 @@
 -- Which event comes next on one thread: an actor is drawn among those that may act, and it takes one step.
-use Rattle.std.specs.Prelude.{◌≡◌, ℕ, ◌%◌, Bool, true, not, ◌==◌, ◌&&◌, nat_le, List, [], ◌∷◌, ◌++◌, map, filter, length, slice_get, Option, Some, None, is_some, if◌then◌else◌}
+use Rattle.std.specs.Prelude.{◌≡◌, ◌⊎◌, ℕ, ◌%◌, Bool, true, not, ◌==◌, ◌&&◌, nat_le, List, [], ◌∷◌, ◌++◌, map, filter, length, slice_get, Option, Some, None, is_some, if◌then◌else◌}
 use Rattle.std.specs.List.{filter_map, flat_map, enumerate_from}
 use Rattle.std.specs.Option.{option_map, option_map_or, option_or}
 use Rattle.rand_pcg.specs.Lcg.{Lcg, started, increment_of}
 use Rattle.rand_pcg.specs.Pcg.{multiplier_64, pcg32}
+use Rattle.fam_base.specs.declared.error.FamError.TheVariants as error
 use Rattle.fam_base.specs.declared.naming.Who.{Who}
 use Rattle.fam_model.specs.declared.call.Call.{Call}
 use Rattle.fam_model.specs.declared.call.Call.TheVariants as call
+use Rattle.fam_model.specs.declared.call.MetaCall.{MetaCall}
 use Rattle.fam_model.specs.declared.event.Event.{Event}
 use Rattle.fam_model.specs.declared.event.What.{What}
 use Rattle.fam_model.specs.declared.event.What.TheVariants as what
@@ -22,7 +24,7 @@ use Rattle.fam_model.specs.declared.state.Started.TheVariants as begun
 use Rattle.fam_model.specs.declared.state.State.{State}
 use Rattle.fam_model.specs.Directory.{answer, refusal, first_choice}
 use Rattle.fam_model.specs.Headline.{opening}
-use Rattle.fam_model.specs.History.{calls}
+use Rattle.fam_model.specs.History.{calls, change_served}
 use Rattle.fam_model.specs.Issue.{issue_refusal}
 use Rattle.fam_model.specs.Limits.{service_limits}
 use Rattle.fam_model.specs.Lists.{◌>>=◌, when, is_some_and, numbers_below}
@@ -208,12 +210,32 @@ next_step script run =
 abbrev pub went_on : Run → Event → State → Lcg → Run
 went_on run event next words = record { before = run.before ++ event ∷ []; now = next; words = words }
 
--- by these events, each of which is the one that comes next, a run leads to another
+-- the disk refuses the change that this event would serve; nothing is changed, and the change may be in doubt
+pub record IsDiskRefusal (state : State) (due event : Event) : Type 0 where
+  pub asked : MetaCall
+  pub given : Reply
+  pub doubt : Bool
+  pub asks : due.what ≡ what.Meta asked given
+  pub changes : is_some (change_served state due) ≡ true
+  pub is : event ≡ event_of due.pe.0 due.call (what.Refused (call.Meta asked) error.DiskFault doubt)
+
+-- what comes where this event is due: it, or in its place its refusal by the disk
+abbrev pub Comes : State → Event → Event → Type 0
+Comes state due event = (event ≡ due) ⊎ IsDiskRefusal state due event
+
+-- by these events, each of which comes where one is due, a run leads to another
 abbrev pub LeadsTo : Script → Run → List Event → Run → Type 0
 LeadsTo script run [] end = end ≡ run
 LeadsTo script run (event ∷ history) end =
-    (words : Lcg) × (next : State) × (next_step script run ≡ Some (event, words))
+    (due : Event) × (words : Lcg) × (next : State) × (next_step script run ≡ Some (due, words)) × Comes run.now due event
     × (step service_limits run.now event ≡ Some next) × LeadsTo script (went_on run event next words) history end
+
+-- by these events, each of which is the one that is due, a run leads to another
+abbrev pub LeadsAsDue : Script → Run → List Event → Run → Type 0
+LeadsAsDue script run [] end = end ≡ run
+LeadsAsDue script run (event ∷ history) end =
+    (words : Lcg) × (next : State) × (next_step script run ≡ Some (event, words))
+    × (step service_limits run.now event ≡ Some next) × LeadsAsDue script (went_on run event next words) history end
 
 -- the words of a seed
 abbrev pub words_of : ℕ → Lcg
@@ -223,7 +245,8 @@ words_of seed = started 64 multiplier_64 seed (increment_of 64 54)
 abbrev pub new_run : Rows → Script → ℕ → Run
 new_run rows script seed = record { before = []; now = opening rows script; words = words_of seed }
 
--- The history is the one that the seed gives, or a front of it. Where it is whole, nobody may act at its end.
+-- The history is the one that the seed gives, but for refusals by the disk, or a front of it. Where it is whole, nobody
+-- may act at its end.
 pub record IsScheduled (rows : Rows) (script : Script) (seed : ℕ) (history : List Event) (whole : Bool) : Type 0 where
   pub end : Run
   pub leads : LeadsTo script (new_run rows script seed) history end

@@ -1,11 +1,17 @@
 //! Laws of the schedule, each the contract of a function that does nothing.
 
-ghost use Rattle.fam_schedule.specs.Laws.{ScheduledHistoriesAreRuns, StopsWhereNobodyMayAct, WholeRunsHaveEnded};
+ghost use Rattle.fam_schedule.specs.Laws.{ScheduledHistoriesAreRuns, UnrefusedEventsAreDue, StopsWhereNobodyMayAct, WholeRunsHaveEnded};
 ghost use Rattle.fam_schedule.specs.Worked.{PiecesComeInAnyOrder, FencesOrder, ContextsReply, CrashesHappen};
 
-/// A history that the schedule gives is one legal run of its script.
+/// A history that the schedule gives is one legal run of its script, over a disk that failed at least as often as it
+/// refused a change.
 pub fn scheduled_histories_are_runs()
     ensures { ScheduledHistoriesAreRuns }
+{}
+
+/// Where the disk refused nothing, each event is the one that is due.
+pub fn unrefused_events_are_due()
+    ensures { UnrefusedEventsAreDue }
 {}
 
 /// The schedule stops only where nobody may act.

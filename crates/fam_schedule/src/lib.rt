@@ -9,7 +9,8 @@ ghost use Rattle.fam_schedule.specs.Schedule as schedule;
 
 pub use laws::{
     contexts_reply, crashes_happen, fences_order, pieces_come_in_any_order,
-    scheduled_histories_are_runs, stops_where_nobody_may_act, whole_runs_have_ended,
+    scheduled_histories_are_runs, stops_where_nobody_may_act, unrefused_events_are_due,
+    whole_runs_have_ended,
 };
 use rand_core::utils::NextWord;
 use rand_pcg::Pcg32;

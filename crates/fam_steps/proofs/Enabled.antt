@@ -45,7 +45,7 @@ found state wanted made event due comes same =
     subst (IsEnabled state wanted) same (record { shape = shape_of state wanted made due; is_due = due; comes = comes })
 
 -- the parts of an event that comes next
-record Next_of (state : State) (pe : ℕ) (wanted : Option Call) (event : Event) : Type 0 where
+pub record Next_of (state : State) (pe : ℕ) (wanted : Option Call) (event : Event) : Type 0 where
   pub p : ProgramState
   pub there : program_of state pe ≡ Some p
   pub next : Next
@@ -53,7 +53,7 @@ record Next_of (state : State) (pe : ℕ) (wanted : Option Call) (event : Event)
   pub comes : is_some (step service_limits state (event_of pe next.call next.what)) ≡ true
   pub is : event_of pe next.call next.what ≡ event
 
-parts : (state : State) (pe : ℕ) (wanted : Option Call) (event : Event) → event_with state pe wanted ≡ Some event → Next_of state pe wanted event
+pub parts : (state : State) (pe : ℕ) (wanted : Option Call) (event : Event) → event_with state pe wanted ≡ Some event → Next_of state pe wanted event
 parts state pe wanted event h =
     let kept : Next → Option Event = λ n. when (is_some (step service_limits state (event_of pe n.call n.what))) (event_of pe n.call n.what) in
     let a = bind_some (program_of state pe) (λ p. next_of state.service state.rows p wanted >>= kept) event h in

@@ -3,3 +3,6 @@ pub mod Blocked
 pub mod Pieces
 pub mod Enabled
 pub mod Course
+pub mod Serving
+pub mod Keeping
+pub mod Awaited

@@ -1,25 +1,40 @@
 -- What may be asked of the service on one thread, and what comes of it.
-use Rattle.std.specs.Prelude.{◌≡◌, ℕ, Bool, true, List, [], ◌∷◌, ◌++◌, Option, Some, None, Result, Ok, Err, is_some, not}
+use Rattle.std.specs.Prelude.{◌≡◌, ℕ, Bool, true, false, List, [], ◌∷◌, ◌++◌, Option, Some, None, Result, Ok, Err, is_some, not}
+use Rattle.fam_base.specs.declared.error.FamError.TheVariants as error
+use Rattle.fam_keeper.specs.declared.kept.Kept.{Kept}
+use Rattle.fam_keeper.specs.declared.kept.Kept.TheVariants.{Served, Refused}
 use Rattle.fam_model.specs.declared.call.Call.{Call}
 use Rattle.fam_model.specs.declared.call.Call.TheVariants as call
 use Rattle.fam_model.specs.declared.event.Event.{Event}
+use Rattle.fam_model.specs.declared.event.What.{What}
 use Rattle.fam_model.specs.declared.event.What.TheVariants as what
+use Rattle.fam_model.specs.declared.change.Change.{Change}
 use Rattle.fam_model.specs.declared.reply.PieceAnswer.{PieceAnswer}
 use Rattle.fam_model.specs.declared.reply.Reply.{Reply}
 use Rattle.fam_model.specs.declared.state.Started.TheVariants as begun
 use Rattle.fam_model.specs.declared.state.State.{State}
-use Rattle.fam_model.specs.History.{state_after}
+use Rattle.fam_model.specs.Directory.{first_choice}
+use Rattle.fam_model.specs.Earned.{is_disk_fault}
+use Rattle.fam_model.specs.History.{change_served, state_after}
 use Rattle.fam_model.specs.Limits.{service_limits}
 use Rattle.fam_model.specs.Lists.{◌>>=◌, is_some_and}
-use Rattle.fam_model.specs.Programs.{program_of}
+use Rattle.fam_model.specs.Programs.{program_of, request_of}
 use Rattle.fam_model.specs.Step.{step}
 use Rattle.fam_model.specs.Turn.{call_made, is_idle}
-use Rattle.fam_schedule.specs.Schedule.{PieceName, event_of, loss, piece_event}
+use Rattle.fam_schedule.specs.Schedule.{Comes, PieceName, event_of, loss, piece_event}
 use Rattle.fam_turns.specs.Turns.{event_with, next_by}
 use Rattle.fam_steps.specs.declared.step.Step.{Step}
 use Rattle.fam_steps.specs.declared.step.Step.TheVariants as asked
 use Rattle.fam_steps.specs.declared.step.CoreFault.{CoreFault}
 use Rattle.fam_steps.specs.declared.step.CoreFault.TheVariants.{Memory, NotEnabled}
+
+-- the change that serves a call of a program, with the least fitting base
+abbrev pub least_change : State → ℕ → Option Call → Option Change
+least_change state pe (Some (call.Meta asked)) = do
+  p ← program_of state pe
+  request ← request_of p asked
+  first_choice state.rows p.who request
+least_change state pe made = None
 
 -- events
 
@@ -64,6 +79,25 @@ abbrev pub IsFound : State → Step → Option Event → Type 0
 IsFound state asked (Some event) = IsEnabled state asked event
 IsFound state asked None = IsNotEnabled state asked
 
+-- what comes
+
+-- what is told where the disk refuses a change
+abbrev pub refused_what : What → Bool → What
+refused_what (what.Meta asked given) doubt = what.Refused (call.Meta asked) error.DiskFault doubt
+refused_what made doubt = made
+
+-- the event that comes where this one is due, by whether its change was kept
+abbrev pub come : Event → Kept → Event
+come due Served = due
+come due (Refused doubt) = record due { what = refused_what due.what doubt }
+
+-- An event that is due may come, and is no refusal by a disk. Where it would serve a change, that is the one with the least
+-- fitting base.
+pub record IsDue (state : State) (due : Event) : Type 0 where
+  pub comes : is_some (step service_limits state due) ≡ true
+  pub calm : is_disk_fault due.what ≡ false
+  pub least : (change : Change) → change_served state due ≡ Some change → least_change state due.pe.0 (call_made due.what) ≡ Some change
+
 -- calls
 
 -- the program has something started
@@ -98,11 +132,17 @@ pub record Makes (old : Course) (event : Event) (new : Course) : Type 0 where
   pub steps : step service_limits old.state event ≡ Some new.state
   pub kept : new.history ≡ old.history ++ event ∷ []
 
--- an event was made that has the shape of a step, and is the one that the step is for
+-- an event was made where one is due: this one, or in its place its refusal by the disk
+pub record MakesDue (old : Course) (due event : Event) (new : Course) : Type 0 where
+  pub comes : Comes old.state due event
+  pub makes : Makes old event new
+
+-- An event was made that has the shape of a step. It is the one that the step is for, or its refusal by the disk.
 pub record Serves (old : Course) (asked : Step) (event : Event) (new : Course) : Type 0 where
   pub shape : HasShape asked event
-  pub is_due : event_for old.state asked ≡ Some event
-  pub makes : Makes old event new
+  pub due : Event
+  pub is_due : event_for old.state asked ≡ Some due
+  pub makes : MakesDue old due event new
 
 -- what comes of a step; after a fault the service is as it was
 abbrev pub Applies : Course → Step → Course → Result Event CoreFault → Type 0
@@ -116,8 +156,9 @@ Advances old asked new (Ok _) = (event : Event) × Serves old asked event new
 Advances old asked new (Err NotEnabled) = IsNotEnabled old.state asked × (new ≡ old)
 Advances old asked new (Err Memory) = new ≡ old
 
--- the next event of a program was made, where this is its next call
+-- the next event of a program was made, where this is its next call, or its refusal by the disk
 abbrev pub TakesTurn : Course → ℕ → Option Call → Course → Result Unit CoreFault → Type 0
-TakesTurn old pe wanted new (Ok _) = (event : Event) × (event_with old.state pe wanted ≡ Some event) × Makes old event new
+TakesTurn old pe wanted new (Ok _) =
+    (due : Event) × (event : Event) × (event_with old.state pe wanted ≡ Some due) × MakesDue old due event new
 TakesTurn old pe wanted new (Err NotEnabled) = (event_with old.state pe wanted ≡ None) × (new ≡ old)
 TakesTurn old pe wanted new (Err Memory) = new ≡ old

@@ -1,6 +1,7 @@
 //! The service on one thread: a step is asked for, and the event that comes of it is made.
 #![tactic(auto)]
 
+mod coming;
 mod copying;
 mod due;
 mod laws;

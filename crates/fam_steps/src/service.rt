@@ -8,12 +8,17 @@ ghost use Rattle.fam_model.specs.Rows.{IsLawful};
 ghost use Rattle.fam_model.specs.Services.{is_service};
 ghost use Rattle.fam_model.specs.Step as machine;
 ghost use Rattle.fam_model.specs.declared.event.Event.{Event};
+ghost use Rattle.fam_keeper.specs.Keeping.{Keeps};
+ghost use Rattle.fam_steps.specs.Crash.{IsFinished, IsKeptDue, IsMade, KeepsOn};
 ghost use Rattle.fam_steps.specs.Steps as steps;
 
+use crate::coming::come;
 use crate::copying::copy_event;
 use crate::due::{due_event, next_event};
 use crate::step::{CoreFault, Step};
 use fam_base::{NoMemory, PeId, Who};
+use fam_disk::Disk;
+use fam_keeper::{Keeper, Kept};
 use fam_machine::{Machine, StepError};
 use fam_model::{Call, Event, Rows, Service};
 use std::alloc::Global;
@@ -54,42 +59,65 @@ impl Core {
         })
     }
 
-    /// Makes the event that a step is for, and hands it out. `NotEnabled` exactly where no event of that shape may come. After
-    /// a fault the service is as it was.
-    pub fn apply(&mut self, wanted: &Step) -> Result<Event, CoreFault>
+    /// Makes the event that a step is for, and hands it out. A change is kept before it is served; where the disk fails the
+    /// event is its refusal. `NotEnabled` exactly where no event of that shape may come. After a fault the service is as it
+    /// was.
+    pub fn apply<D: Disk>(
+        &mut self,
+        keeper: &mut Keeper<D>,
+        wanted: &Step,
+    ) -> Result<Event, CoreFault>
+        requires kept { Keeps keeper.old self.old.state.rows }
         ensures applies { steps.Applies self.old wanted.now self.new result }
         ensures legal { steps.GoesOn self.old self.new }
+        ensures kept { Keeps keeper.new self.new.state.rows }
+        ensures keeps { KeepsOn self.old keeper.old self.new keeper.new }
     {
-        let Some(event) = self.due(wanted)? else {
+        let Some(due) = self.due(wanted)? else {
             return Err(CoreFault::NotEnabled);
         };
-        let told = copy_event(&event)?;
-        self.make(event)?;
-        Ok(told)
+        let told = copy_event(&due)?;
+        let kept = self.make(keeper, due)?;
+        Ok(come(told, kept))
     }
 
     /// Makes the event that a step is for: it is then the last one of the history. Else as `apply`.
-    pub fn advance(&mut self, wanted: &Step) -> Result<(), CoreFault>
+    pub fn advance<D: Disk>(
+        &mut self,
+        keeper: &mut Keeper<D>,
+        wanted: &Step,
+    ) -> Result<(), CoreFault>
+        requires kept { Keeps keeper.old self.old.state.rows }
         ensures goes { steps.Advances self.old wanted.now self.new result }
         ensures legal { steps.GoesOn self.old self.new }
+        ensures kept { Keeps keeper.new self.new.state.rows }
+        ensures keeps { KeepsOn self.old keeper.old self.new keeper.new }
     {
-        let Some(event) = self.due(wanted)? else {
+        let Some(due) = self.due(wanted)? else {
             return Err(CoreFault::NotEnabled);
         };
-        self.make(event)?;
+        self.make(keeper, due)?;
         Ok(())
     }
 
     /// Makes the next event of a program whose next call is this one: the answer of what it has started, or else the first
-    /// event of the call. It is then the last one of the history.
-    pub fn go_on(&mut self, pe: PeId, wanted: &Option<Call>) -> Result<(), CoreFault>
+    /// event of the call. It is then the last one of the history. Else as `apply`.
+    pub fn go_on<D: Disk>(
+        &mut self,
+        keeper: &mut Keeper<D>,
+        pe: PeId,
+        wanted: &Option<Call>,
+    ) -> Result<(), CoreFault>
+        requires kept { Keeps keeper.old self.old.state.rows }
         ensures takes { steps.TakesTurn self.old pe.0 wanted.now self.new result }
         ensures legal { steps.GoesOn self.old self.new }
+        ensures kept { Keeps keeper.new self.new.state.rows }
+        ensures keeps { KeepsOn self.old keeper.old self.new keeper.new }
     {
-        let Some(event) = next_event(self.alloc, &self.machine, pe, wanted)? else {
+        let Some(due) = next_event(self.alloc, &self.machine, pe, wanted)? else {
             return Err(CoreFault::NotEnabled);
         };
-        self.make(event)?;
+        self.make(keeper, due)?;
         Ok(())
     }
 
@@ -128,8 +156,39 @@ impl Core {
         due_event(self.alloc, &self.machine, wanted)
     }
 
-    /// Makes an event that may come.
-    fn make(&mut self, event: Event) -> Result<(), NoMemory>
+    /// Makes what comes where this event is due.
+    fn make<D: Disk>(&mut self, keeper: &mut Keeper<D>, due: Event) -> Result<Kept, NoMemory>
+        requires due { steps.IsDue self.old.state due }
+        requires kept { Keeps keeper.old self.old.state.rows }
+        ensures { IsMade self.old due keeper.old self.new keeper.new result }
+    {
+        match keep_due(&self.machine, keeper, &due) {
+            Ok(kept) => self.finish(keeper, come(due, kept), kept),
+            Err(NoMemory) => Err(NoMemory),
+        }
+    }
+
+    /// Adds what came, whose change was kept. Where memory is wanting the keeper is stopped.
+    fn finish<D: Disk>(
+        &mut self,
+        keeper: &mut Keeper<D>,
+        event: Event,
+        kept: Kept,
+    ) -> Result<Kept, NoMemory>
+        requires { is_some (machine.step service_limits self.old.state event) ≡ true }
+        ensures { IsFinished self.old event kept keeper.old self.new keeper.new result }
+    {
+        match self.add(event) {
+            Ok(()) => Ok(kept),
+            Err(NoMemory) => {
+                keeper.stop();
+                Err(NoMemory)
+            }
+        }
+    }
+
+    /// Adds an event that may come.
+    fn add(&mut self, event: Event) -> Result<(), NoMemory>
         requires { is_some (machine.step service_limits self.old.state event) ≡ true }
         ensures made { OnOk result (steps.Makes self.old event self.new) }
         ensures failed { OnErr result (self.new ≡ self.old) }
@@ -144,5 +203,23 @@ impl Core {
         }
         self.history.push_reserved(event);
         Ok(())
+    }
+}
+
+/// Keeps the change of an event that is due, if it would serve one.
+fn keep_due<D: Disk>(
+    machine: &Machine,
+    keeper: &mut Keeper<D>,
+    due: &Event,
+) -> Result<Kept, NoMemory>
+    requires { Keeps keeper.old machine.now.rows }
+    ensures { IsKeptDue machine.now due.now keeper.old keeper.new result }
+{
+    if keeper.is_stopped() {
+        return Err(NoMemory);
+    }
+    match machine.change_of(due)? {
+        Some(change) => keeper.keep(machine.rows(), &change),
+        None => Ok(Kept::Served),
     }
 }

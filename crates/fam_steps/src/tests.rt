@@ -2,6 +2,8 @@
 
 use crate::{Core, CoreFault, Step};
 use fam_base::{Bytes, PeId, Who};
+use fam_disk::MemDisk;
+use fam_keeper::Keeper;
 use fam_model::{Call, DataOp, Event, PieceAnswer, Reply, Service, What};
 use fam_rows::common_rows;
 use std::alloc::Global;
@@ -123,10 +125,11 @@ fn makes_what_may_come_and_refuses_the_rest(rt: HostRuntime) -> Result<(), Fail>
     let rows = common_rows(alloc)?;
     let whos = [Who { uid: 5, gid: 5 }];
     let mut core = Core::new(alloc, service, &whos, rows)?;
+    let mut keeper = Keeper::<MemDisk>::nothing();
     for (ask, wanted) in ROWS {
         let asked = asked_for(alloc, ask)?;
         let before = core.history().len();
-        let result = core.apply(&asked);
+        let result = core.apply(&mut keeper, &asked);
         let came = what_came(&result);
         assert_eq!(rt; came, wanted);
         assert_eq!(rt; core.history().len() > before, result.is_ok());
@@ -144,11 +147,18 @@ fn goes_on_by_turns(rt: HostRuntime) -> Result<(), Fail> {
     let rows = common_rows(alloc)?;
     let whos = [Who { uid: 5, gid: 5 }];
     let mut core = Core::new(alloc, service, &whos, rows)?;
+    let mut keeper = Keeper::<MemDisk>::nothing();
     let leaves = Some(Call::Leave);
-    assert_eq!(rt; core.go_on(PE, &None), Err(CoreFault::NotEnabled));
-    assert_eq!(rt; core.go_on(PE, &leaves), Ok(()));
+    assert_eq!(rt;
+        core.go_on(&mut keeper, PE, &None),
+        Err(CoreFault::NotEnabled)
+    );
+    assert_eq!(rt; core.go_on(&mut keeper, PE, &leaves), Ok(()));
     assert!(rt; core.last().is_some());
-    assert_eq!(rt; core.go_on(PE, &leaves), Err(CoreFault::NotEnabled));
+    assert_eq!(rt;
+        core.go_on(&mut keeper, PE, &leaves),
+        Err(CoreFault::NotEnabled)
+    );
     assert_eq!(rt; core.into_history().len(), 1);
     Ok(())
 }

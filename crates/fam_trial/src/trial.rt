@@ -61,7 +61,7 @@ fn memory_sum(machine: &Machine) -> u64
     ensures { result ≡ trial.memory_sum machine.now }
 {
     let mut sum = 0u64;
-    for row in machine.rows().items.as_slice() {
+    for row in machine.rows().items() {
         let of_item = match machine.item(row.number) {
             Some(bytes) => item_sum(row.number.0, bytes.as_slice()),
             None => 0,

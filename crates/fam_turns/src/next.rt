@@ -5,7 +5,6 @@ ghost use Rattle.std.specs.Option.{option_map};
 ghost use Rattle.fam_machine.specs.Sound.{HoldsSound};
 ghost use Rattle.fam_model.specs.Operations as operations;
 ghost use Rattle.fam_model.specs.Programs as programs;
-ghost use Rattle.fam_model.specs.Rows.{IsLawful};
 ghost use Rattle.fam_model.specs.declared.call.Call.TheVariants as call;
 ghost use Rattle.fam_model.specs.declared.event.What.TheVariants as what;
 ghost use Rattle.fam_model.specs.declared.state.Started.TheVariants as begun;
@@ -16,8 +15,9 @@ use crate::asking::meta_reply;
 use crate::refusing::refusal;
 use crate::telling::{copy_result, report_of, result_of};
 use fam_base::{NoMemory, copy_of};
+use fam_directory::IndexedRows;
 use fam_layout::Layout;
-use fam_model::{Call, MetaCall, Reply, Rows, Started, What};
+use fam_model::{Call, MetaCall, Reply, Started, What};
 use fam_program::Program;
 use std::alloc::Global;
 
@@ -40,11 +40,10 @@ fn issue(asked: &Call, reply: Reply) -> Result<What, NoMemory>
 #[tactic(auto, using(crate::proofs::Replying::meta_begins))]
 fn ask(
     alloc: Global,
-    rows: &Rows,
+    rows: &IndexedRows,
     program: &Program,
     asked: &MetaCall,
 ) -> Result<Option<What>, NoMemory>
-    requires { IsLawful rows.now }
     ensures { IfOk result (λ made. made ≡ begins rows.now program.now.state (call.Meta asked.now)) }
 {
     match meta_reply(alloc, rows, program, asked)? {
@@ -59,11 +58,10 @@ fn ask(
 /// The event by which a call begins that is not refused at once.
 fn begins(
     alloc: Global,
-    rows: &Rows,
+    rows: &IndexedRows,
     program: &Program,
     asked: &Call,
 ) -> Result<Option<What>, NoMemory>
-    requires { IsLawful rows.now }
     ensures { IfOk result (λ made. made ≡ begins rows.now program.now.state asked.now) }
 {
     match asked {
@@ -118,12 +116,11 @@ fn wait(program: &Program, context: u8, named: u64) -> Result<Option<What>, NoMe
 fn first_event(
     alloc: Global,
     layout: &Layout,
-    rows: &Rows,
+    rows: &IndexedRows,
     program: &Program,
     asked: &Call,
 ) -> Result<Option<What>, NoMemory>
-    requires lawful { IsLawful rows.now }
-    requires holds { HoldsSound rows.now program.now.state }
+    requires { HoldsSound rows.now program.now.state }
     ensures { IfOk result (λ made. made ≡ first_event layout.now rows.now program.now.state asked.now) }
 {
     match refusal(alloc, layout, rows, program, asked)? {
@@ -136,12 +133,11 @@ fn first_event(
 fn next_call(
     alloc: Global,
     layout: &Layout,
-    rows: &Rows,
+    rows: &IndexedRows,
     program: &Program,
     asked: &Call,
 ) -> Result<Option<Next>, NoMemory>
-    requires lawful { IsLawful rows.now }
-    requires holds { HoldsSound rows.now program.now.state }
+    requires { HoldsSound rows.now program.now.state }
     ensures { IfOk result (λ next. next ≡ words.next_by layout.now rows.now program.now.state begun.Nothing (Some asked.now)) }
 {
     match first_event(alloc, layout, rows, program, asked)? {
@@ -168,12 +164,11 @@ fn answer(call: u64, reply: Reply) -> Next
 pub fn next_what(
     alloc: Global,
     layout: &Layout,
-    rows: &Rows,
+    rows: &IndexedRows,
     program: &Program,
     asked: &Option<Call>,
 ) -> Result<Option<Next>, NoMemory>
-    requires lawful { IsLawful rows.now }
-    requires holds { HoldsSound rows.now program.now.state }
+    requires { HoldsSound rows.now program.now.state }
     ensures { IfOk result (λ next. next ≡ words.next_of layout.now rows.now program.now.state asked.now) }
 {
     match program.started() {

@@ -7,8 +7,9 @@ ghost use Rattle.fam_machine.specs.Issuing.{Knows};
 ghost use Rattle.fam_machine.specs.Sound.{HoldsSound};
 
 use fam_base::{FamError, NoMemory};
+use fam_directory::IndexedRows;
 use fam_layout::Layout;
-use fam_model::{Call, DataOp, Rows};
+use fam_model::{Call, DataOp};
 use fam_program::Program;
 use std::alloc::Global;
 
@@ -43,7 +44,7 @@ fn data_refusal(
 pub(crate) fn refusal(
     alloc: Global,
     layout: &Layout,
-    rows: &Rows,
+    rows: &IndexedRows,
     program: &Program,
     asked: &Call,
 ) -> Result<Option<FamError>, NoMemory>

@@ -22,6 +22,8 @@ verdict_ends from to before after (verdicts.Legal events) (ending.BadLine n) is 
 verdict_ends from to before after (verdicts.Legal events) (ending.Illegal line rule) is told = absurd told
 verdict_ends from to before after (verdicts.Legal events) ending.ReadFault is told = absurd told
 verdict_ends from to before after (verdicts.Legal events) ending.TooLong is told = absurd told
+verdict_ends from to before after (verdicts.Legal events) ending.DiskFault is told = absurd told
+verdict_ends from to before after (verdicts.Legal events) (ending.Damaged place) is told = absurd told
 verdict_ends from to before after (verdicts.Illegal line rule) ending.Told is told = absurd told
 verdict_ends from to before after (verdicts.Illegal line rule) ending.WriteFault is told = absurd told
 verdict_ends from to before after (verdicts.Illegal line rule) ending.NoMemory is told = told
@@ -32,6 +34,8 @@ verdict_ends from to before after (verdicts.Illegal line rule) (ending.Illegal l
     (subst (λ k. AuditEnds from to before after (ending.Illegal line k)) (sym same_rule) (is, told))
 verdict_ends from to before after (verdicts.Illegal line rule) ending.ReadFault is told = absurd told
 verdict_ends from to before after (verdicts.Illegal line rule) ending.TooLong is told = absurd told
+verdict_ends from to before after (verdicts.Illegal line rule) ending.DiskFault is told = absurd told
+verdict_ends from to before after (verdicts.Illegal line rule) (ending.Damaged place) is told = absurd told
 
 -- that nothing was judged was told
 pub unjudged_ends : (from to : SourceState) (before after : SinkState) (why e : Ending) → Unjudged from to why → IsTold why before after e → AuditEnds from to before after e
@@ -44,6 +48,8 @@ unjudged_ends from to before after (ending.BadLine n) ending.ReadFault not told 
 unjudged_ends from to before after (ending.BadLine n) ending.WriteFault not told = absurd told
 unjudged_ends from to before after (ending.BadLine n) ending.NoMemory not told = told
 unjudged_ends from to before after (ending.BadLine n) ending.TooLong not told = absurd told
+unjudged_ends from to before after (ending.BadLine n) ending.DiskFault not told = absurd told
+unjudged_ends from to before after (ending.BadLine n) (ending.Damaged place) not told = absurd told
 unjudged_ends from to before after ending.ReadFault ending.Told not told = absurd told
 unjudged_ends from to before after ending.ReadFault ending.BadWords not told = absurd told
 unjudged_ends from to before after ending.ReadFault (ending.BadLine m) not told = absurd told
@@ -52,6 +58,8 @@ unjudged_ends from to before after ending.ReadFault ending.ReadFault not told = 
 unjudged_ends from to before after ending.ReadFault ending.WriteFault not told = absurd told
 unjudged_ends from to before after ending.ReadFault ending.NoMemory not told = told
 unjudged_ends from to before after ending.ReadFault ending.TooLong not told = absurd told
+unjudged_ends from to before after ending.ReadFault ending.DiskFault not told = absurd told
+unjudged_ends from to before after ending.ReadFault (ending.Damaged place) not told = absurd told
 unjudged_ends from to before after ending.TooLong ending.Told not told = absurd told
 unjudged_ends from to before after ending.TooLong ending.BadWords not told = absurd told
 unjudged_ends from to before after ending.TooLong (ending.BadLine m) not told = absurd told
@@ -60,6 +68,8 @@ unjudged_ends from to before after ending.TooLong ending.ReadFault not told = ab
 unjudged_ends from to before after ending.TooLong ending.WriteFault not told = absurd told
 unjudged_ends from to before after ending.TooLong ending.NoMemory not told = told
 unjudged_ends from to before after ending.TooLong ending.TooLong not told = (not, told)
+unjudged_ends from to before after ending.TooLong ending.DiskFault not told = absurd told
+unjudged_ends from to before after ending.TooLong (ending.Damaged place) not told = absurd told
 unjudged_ends from to before after ending.NoMemory ending.Told not told = absurd told
 unjudged_ends from to before after ending.NoMemory ending.BadWords not told = absurd told
 unjudged_ends from to before after ending.NoMemory (ending.BadLine m) not told = absurd told
@@ -68,10 +78,14 @@ unjudged_ends from to before after ending.NoMemory ending.ReadFault not told = a
 unjudged_ends from to before after ending.NoMemory ending.WriteFault not told = absurd told
 unjudged_ends from to before after ending.NoMemory ending.NoMemory not told = told
 unjudged_ends from to before after ending.NoMemory ending.TooLong not told = absurd told
+unjudged_ends from to before after ending.NoMemory ending.DiskFault not told = absurd told
+unjudged_ends from to before after ending.NoMemory (ending.Damaged place) not told = absurd told
 unjudged_ends from to before after ending.Told e not told = absurd not
 unjudged_ends from to before after ending.BadWords e not told = absurd not
 unjudged_ends from to before after (ending.Illegal line rule) e not told = absurd not
 unjudged_ends from to before after ending.WriteFault e not told = absurd not
+unjudged_ends from to before after ending.DiskFault e not told = absurd not
+unjudged_ends from to before after (ending.Damaged place) e not told = absurd not
 
 -- the words were refused
 pub audit_refused : (words : List (List ℕ)) (source : SourceState) (before after : SinkState) (status : ℕ) → ¬ IsAudit words → status ≡ 2 → Tells before after (codes "bad words\n") →
@@ -110,6 +124,8 @@ module _ (from to : SourceState) (before after : SinkState) (left : List ℕ) (t
   complete ending.WriteFault (events, is, front, rose) calm low = absurd (calm.1 rose)
   complete ending.NoMemory ends calm low = inr (inr (inr refl))
   complete ending.TooLong (moves, line) calm low = absurd (omega (arith, too_many moves, low))
+  complete ending.DiskFault ends calm low = absurd ends
+  complete (ending.Damaged place) ends calm low = absurd ends
 
   too_long : (e : Ending) → AuditEnds from to before after e → IsCalm from to before after → input_limit < length left → (status_of e ≡ 10) ⊎ (status_of e ≡ 9)
   too_long ending.Told (events, (bytes, reads, judged), line) calm long = let low = short bytes reads in absurd (omega (arith, low, long))
@@ -120,6 +136,8 @@ module _ (from to : SourceState) (before after : SinkState) (left : List ℕ) (t
   too_long ending.WriteFault (events, is, front, rose) calm long = absurd (calm.1 rose)
   too_long ending.NoMemory ends calm long = inr refl
   too_long ending.TooLong ends calm long = inl refl
+  too_long ending.DiskFault ends calm long = absurd ends
+  too_long (ending.Damaged place) ends calm long = absurd ends
 
 not_two : (from to : SourceState) (before after : SinkState) (e : Ending) → AuditEnds from to before after e → status_of e ≡ 2 → ⊥
 not_two from to before after ending.Told ends two = let t = two in omega (arith, t)
@@ -130,6 +148,8 @@ not_two from to before after ending.ReadFault ends two = let t = two in omega (a
 not_two from to before after ending.WriteFault ends two = let t = two in omega (arith, t)
 not_two from to before after ending.NoMemory ends two = let t = two in omega (arith, t)
 not_two from to before after ending.TooLong ends two = let t = two in omega (arith, t)
+not_two from to before after ending.DiskFault ends two = ends
+not_two from to before after (ending.Damaged place) ends two = ends
 
 -- the words were those of `audit`
 pub audited_out : (words : List (List ℕ)) (from to : SourceState) (before after : SinkState) (status : ℕ) (e : Ending) → IsAudit words → status ≡ status_of e →

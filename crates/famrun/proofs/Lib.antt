@@ -4,3 +4,4 @@ pub mod Runs
 pub mod Made
 pub mod Audited
 pub mod Inputs
+pub mod OverDisk

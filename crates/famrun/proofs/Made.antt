@@ -1,5 +1,5 @@
 -- Every ending of `make` and of `trial` is one that their contract allows.
-use Rattle.std.proofs.Common.{◌≡◌, ℕ, ◌<◌, ◌≤◌, Bool, true, false, List, [], ◌∷◌, refl, sym, ap, ◌∙◌, arith, inl, inr, ◌⊎◌, length, subst, get_or}
+use Rattle.std.proofs.Common.{◌≡◌, ℕ, ◌+◌, ◌<◌, ◌≤◌, Bool, true, false, List, [], ◌∷◌, refl, sym, ap, ◌∙◌, arith, inl, inr, ◌⊎◌, length, subst, get_or}
 use Rattle.std.specs.Global.{Global}
 use Rattle.std.specs.Prelude.{Result, Ok, Err, IfOk, Vec, Option, Some, None, IfSome, IfNone, MatchOption, codes, ◌≢◌, ◌^◌, nat_lt, ◌||◌, not, slice_index_or}
 use Rattle.std.specs.Fmt.{decimal}
@@ -29,7 +29,14 @@ use Rattle.fam_model.specs.Rows.{common_rows}
 use Rattle.fam_schedule.specs.Schedule.{IsScheduled}
 use Rattle.fam_trial.specs.Generator.{made_program, made_script, words_of_program}
 use Rattle.fam_trial.specs.Trial.{trial_line}
-use Rattle.famrun.proofs.Runs.{played}
+use Rattle.famrun.proofs.OverDisk.{played}
+use Rattle.fam_disk.specs.declared.disk.Disk.{Ghosts}
+use Rattle.fam_keeper.specs.Keeping.{LeavesIn, faults_in, faults_of}
+use Rattle.fam_keeper.specs.declared.keeper.Keeper.{Keeper}
+use Rattle.fam_model.specs.Earned.{disk_faults}
+use Rattle.fam_steps.specs.Crash.{IsKeptRun, MayBeLeft}
+use Rattle.fam_steps.specs.Steps.{Course}
+use Rattle.meta_journal.specs.declared.journal.Journal.{Journal}
 use Rattle.famrun.specs.Making.{HasMade, IsMade, IsTrial, MadeOutcome, MakeEnds, TrialEnds, most_programs, most_calls, wanted_in}
 
 -- words
@@ -129,6 +136,8 @@ make_one wanted before after (ending.BadLine n) ends = absurd ends
 make_one wanted before after (ending.Illegal line rule) ends = absurd ends
 make_one wanted before after ending.ReadFault ends = absurd ends
 make_one wanted before after ending.TooLong ends = absurd ends
+make_one wanted before after ending.DiskFault ends = absurd ends
+make_one wanted before after (ending.Damaged place) ends = absurd ends
 
 pub trial_one : (wanted : Wanted) (before after : SinkState) (e : Ending) → TrialEnds wanted before after e → IsOne before after (status_of e)
 trial_one wanted before after ending.Told ends = inl refl
@@ -139,6 +148,8 @@ trial_one wanted before after (ending.BadLine n) ends = absurd ends
 trial_one wanted before after (ending.Illegal line rule) ends = absurd ends
 trial_one wanted before after ending.ReadFault ends = absurd ends
 trial_one wanted before after ending.TooLong ends = absurd ends
+trial_one wanted before after ending.DiskFault ends = absurd ends
+trial_one wanted before after (ending.Damaged place) ends = absurd ends
 
 -- the words were refused
 pub made_refused : (name : List ℕ) (Ends : Wanted → SinkState → SinkState → Ending → Type 0) (words : List (List ℕ)) (before after : SinkState) (status : ℕ) → ¬ IsMade name words → status ≡ 2 →
@@ -182,27 +193,41 @@ program_count_is : (wanted : Wanted) → length (made_script wanted.seed wanted.
 program_count_is wanted =
     length-map (numbers_below wanted.programs) (λ pe. made_program pe (words_of_program wanted.seed wanted.calls pe)) ∙ length-range_with_len 0 wanted.programs
 
+-- without a journal the disk refuses nothing
+pub no_faults : {D : Type 0} {disk : Ghosts D} (start : State) (first now : Keeper D disk) (course : Course) → first.journal ≡ None → IsKeptRun start first course now → disk_faults (course.history ∷ []) ≡ 0
+no_faults {D} {disk} start first now course none run =
+    let gone : faults_of now ≡ 0 = still first.journal now.journal none run.leaves in
+    let zero : faults_of first ≡ 0 = ap faults_in none in
+    let few : disk_faults (course.history ∷ []) + faults_of first ≤ faults_of now = run.faults (omega (arith, gone)) in
+    omega (arith, few, gone)
+  where
+    still : (a b : Option (Journal D disk)) → a ≡ None → LeavesIn (MayBeLeft start course now.stopped) a b → faults_in b ≡ 0
+    still None None e leaves = refl
+    still None (Some j) e leaves = absurd leaves
+    still (Some i) b e leaves = cc
+
 trial_of : (wanted : Wanted) (rows : Rows) (run : Played) (line : List ℕ) → rows ≡ common_rows → IsLawfulScript (made_script wanted.seed wanted.programs wanted.calls) →
-    IsPlayedOut rows (made_script wanted.seed wanted.programs wanted.calls) wanted.seed run → run.whole ≡ true →
+    disk_faults (run.service.history ∷ []) ≡ 0 → IsPlayedOut rows (made_script wanted.seed wanted.programs wanted.calls) wanted.seed run → run.whole ≡ true →
     (run.replies.items ≡ reply_lines wanted.programs run.service.history → line ≡ trial_line wanted.seed wanted.programs wanted.calls run.service.history run.service.state) → IsTrial wanted line
-trial_of wanted rows run line fresh lawful out whole told =
+trial_of wanted rows run line fresh lawful unrefused out whole told =
     let script = made_script wanted.seed wanted.programs wanted.calls in
     let here : IsPlayedOut common_rows script wanted.seed run = subst (λ r. IsPlayedOut r script wanted.seed run) fresh out in
     record {
       history = run.service.history;
       state = run.service.state;
-      played = played wanted.seed script run.service.history true lawful (subst (IsScheduled common_rows script wanted.seed run.service.history) whole here.scheduled);
+      played = played wanted.seed common_rows script run.service.history true 0 0 lawful (subst (IsScheduled common_rows script wanted.seed run.service.history) whole here.scheduled)
+          (λ low. omega (arith, unrefused));
       reached = here.state whole;
       is = told (here.replies whole ∙ ap (λ n. reply_lines n run.service.history) (program_count_is wanted));
     }
 
 pub trial_told : (wanted : Wanted) (rows : Rows) (script : Script) (run : Played) (history : List Event) (replies : List ReplyLine) (state : State) (line : Result (Vec ℕ Global) NoMemory) →
-    rows ≡ common_rows → script ≡ made_script wanted.seed wanted.programs wanted.calls → IsLawfulScript script → IsPlayedOut rows script wanted.seed run → run.whole ≡ true →
+    rows ≡ common_rows → script ≡ made_script wanted.seed wanted.programs wanted.calls → IsLawfulScript script → disk_faults (run.service.history ∷ []) ≡ 0 → IsPlayedOut rows script wanted.seed run → run.whole ≡ true →
     history ≡ run.service.history → replies ≡ run.replies.items → state ≡ run.service.state →
     IfOk line (λ text. replies ≡ reply_lines wanted.programs history → text.items ≡ trial_line wanted.seed wanted.programs wanted.calls history state) →
     IfOk line (λ text. IsTrial wanted text.items)
-trial_told wanted rows script run history replies state line fresh same lawful out whole h r s told =
+trial_told wanted rows script run history replies state line fresh same lawful unrefused out whole h r s told =
     if_ok line
-    (λ text of. trial_of wanted rows run text.items fresh (subst IsLawfulScript same lawful) (subst (λ t. IsPlayedOut rows t wanted.seed run) same out) whole
+    (λ text of. trial_of wanted rows run text.items fresh (subst IsLawfulScript same lawful) unrefused (subst (λ t. IsPlayedOut rows t wanted.seed run) same out) whole
     (λ lines. of (r ∙ lines ∙ ap (reply_lines wanted.programs) (sym h)) ∙ ap (λ x. trial_line wanted.seed wanted.programs wanted.calls x state) h
     ∙ ap (trial_line wanted.seed wanted.programs wanted.calls run.service.history) s)) told

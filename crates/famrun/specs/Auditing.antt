@@ -14,7 +14,7 @@ use Rattle.fam_audit.specs.declared.verdict.Verdict.TheVariants as verdicts
 use Rattle.fam_audit.specs.Verdict.{verdict}
 use Rattle.report_reader.specs.Report.{IsReport, IsBadReportLine}
 use Rattle.famrun.specs.declared.ending.Ending.{Ending}
-use Rattle.famrun.specs.declared.ending.Ending.TheVariants.{Told, BadWords, BadLine, Illegal, ReadFault, WriteFault, NoMemory, TooLong}
+use Rattle.famrun.specs.declared.ending.Ending.TheVariants.{Told, BadWords, BadLine, Illegal, ReadFault, WriteFault, DiskFault, Damaged, NoMemory, TooLong}
 use Rattle.famrun.specs.Ending.{IsCalm, ReadsInput, Tells, input_limit, status_of}
 
 -- the input
@@ -85,6 +85,8 @@ AuditEnds from to before after ReadFault = Rose from.faults to.faults × Tells b
 AuditEnds from to before after TooLong = MovesExactly from to (input_limit + 1) × Tells before after (codes "too long\n")
 AuditEnds from to before after NoMemory = Tells before after (codes "no memory\n")
 AuditEnds from to before after BadWords = ⊥
+AuditEnds from to before after DiskFault = ⊥
+AuditEnds from to before after (Damaged place) = ⊥
 
 -- the words of `audit`
 abbrev pub IsAudit : List (List ℕ) → Type 0

@@ -1,21 +1,25 @@
 -- How a simulation ends: its status, its output and its history.
 use Rattle.std.specs.Global.{Global}
-use Rattle.std.specs.Prelude.{Vec, Bool, true, false, Result, Ok, Err, ◌↔◌, IfSome, ◌≡◌, ℕ, ◌++◌, ◌∷◌, ◌+◌, ◌^◌, ◌<◌, ◌≤◌, ◌⊎◌, List, [], length, codes}
+use Rattle.std.specs.Prelude.{Vec, Bool, true, false, Result, Ok, Err, Some, ◌↔◌, IfSome, ◌≡◌, ℕ, ◌++◌, ◌∷◌, ◌+◌, ◌^◌, ◌<◌, ◌≤◌, ◌⊎◌, List, [], length, codes}
 use Rattle.std.specs.Fmt.{decimal}
 use Rattle.std.specs.Io.KnownBytes.{Appends, IsAtEnd}
 use Rattle.fam_base.specs.Causes.{Rose}
 use Rattle.fam_io.specs.State.{SourceState, SinkState, Moves, MovesUpTo, MovesExactly, AddsPrefix}
 use Rattle.fam_model.specs.declared.event.Event.{Event}
+use Rattle.fam_model.specs.declared.rows.Rows.{Rows}
 use Rattle.fam_model.specs.declared.script.Script.{Script}
-use Rattle.fam_model.specs.Headline.{IsRun, HasEnded}
 use Rattle.fam_model.specs.ReportText.{report_of, report_text}
-use Rattle.fam_model.specs.Rows.{common_rows}
+use Rattle.fam_model.specs.Limits.{service_limits}
 use Rattle.fam_model.specs.Grammar.{IsScript}
-use Rattle.fam_schedule.specs.Schedule.{IsScheduled}
 use Rattle.fam_script.specs.BadLine.{IsBadLine}
 use Rattle.fam_base.specs.declared.error.NoMemory.{NoMemory as NoMemoryError}
+use Rattle.fam_disk.specs.Crash.{DiskState}
+use Rattle.meta_journal.specs.Reading.{journal}
+use Rattle.meta_journal.specs.declared.starting.OpenFault.{OpenFault}
+use Rattle.meta_journal.specs.declared.starting.OpenFault.TheVariants as refusal
+use Rattle.famrun.specs.OverDisk.{IsDamagedAt, Looks, RunsOver}
 use Rattle.famrun.specs.declared.ending.Ending.{Ending}
-use Rattle.famrun.specs.declared.ending.Ending.TheVariants.{Told, BadWords, BadLine, Illegal, ReadFault, WriteFault, NoMemory, TooLong}
+use Rattle.famrun.specs.declared.ending.Ending.TheVariants.{Told, BadWords, BadLine, Illegal, ReadFault, WriteFault, NoMemory, TooLong, DiskFault, Damaged}
 
 -- the status of each ending
 abbrev pub status_of : Ending → ℕ
@@ -24,6 +28,8 @@ status_of BadWords = 2
 status_of (BadLine n) = 3
 status_of ReadFault = 4
 status_of WriteFault = 5
+status_of DiskFault = 6
+status_of (Damaged place) = 7
 status_of (Illegal line rule) = 8
 status_of NoMemory = 9
 status_of TooLong = 10
@@ -74,43 +80,53 @@ pub record Tells (before after : SinkState) (line : List ℕ) : Type 0 where
   pub front : AddsPrefix before after line
   pub whole : Rose before.faults after.faults ⊎ Appends before.written after.written line
 
--- the report of a history
-abbrev pub report : Script → List Event → List ℕ
-report script history = report_text (report_of (length script.programs) common_rows history)
+-- the report of a history from these rows
+abbrev pub report : Script → Rows → List Event → List ℕ
+report script rows history = report_text (report_of (length script.programs) rows history)
 
--- a run of a script, or the run so far: it is legal, and the one that the schedule gives for the seed
-pub record IsPlayed (seed : ℕ) (script : Script) (history : List Event) (whole : Bool) : Type 0 where
-  pub run : IsRun common_rows script history 0 0
-  pub scheduled : IsScheduled common_rows script seed history whole
-  pub ended : whole ≡ true → HasEnded common_rows script history
+-- how a simulation ends
 
--- the run so far, or nothing yet
-abbrev pub IsSoFar : ℕ → SourceState → SourceState → List Event → Type 0
-IsSoFar seed from to history =
-    (history ≡ []) ⊎ ((script : Script) × ReadsScript from to script × IsPlayed seed script history false)
+-- the run so far; or nothing was played, and the journal was opened at most
+abbrev pub IsSoFar : {D : Type 0} → (D → DiskState) → ℕ → SourceState → SourceState → List Event → D → D → Type 0
+IsSoFar state seed from to history old new =
+    ((history ≡ []) × ((new ≡ old) ⊎ Looks (state old) (state new)))
+    ⊎ ((script : Script) × (rows : Rows) × ReadsScript from to script × RunsOver state seed script rows history false old new)
 
 -- the whole run of a script
-pub record RunsScript (seed : ℕ) (from to : SourceState) (script : Script) (history : List Event) : Type 0 where
+pub record RunsScript {D : Type 0} (state : D → DiskState) (seed : ℕ) (from to : SourceState) (script : Script) (rows : Rows) (history : List Event) (old new : D) : Type 0 where
   pub reads : ReadsScript from to script
-  pub played : IsPlayed seed script history true
+  pub runs : RunsOver state seed script rows history true old new
 
--- a simulation of what the source has left ends like this, with this history
-abbrev pub SimEnds : ℕ → SourceState → SourceState → SinkState → SinkState → List Event → Ending → Type 0
-SimEnds seed from to before after history Told =
-    (script : Script) × RunsScript seed from to script history × Appends before.written after.written (report script history)
-SimEnds seed from to before after history WriteFault =
-    (script : Script) × RunsScript seed from to script history × AddsPrefix before after (report script history)
-    × Rose before.faults after.faults
-SimEnds seed from to before after history (BadLine n) =
-    ReadsBadLine from to n × (history ≡ []) × Tells before after (codes "bad line " ++ (decimal n ++ codes "\n"))
-SimEnds seed from to before after history ReadFault =
-    Rose from.faults to.faults × (history ≡ []) × Tells before after (codes "read fault\n")
-SimEnds seed from to before after history TooLong =
-    MovesExactly from to (input_limit + 1) × (history ≡ []) × Tells before after (codes "too long\n")
-SimEnds seed from to before after history NoMemory =
-    IsSoFar seed from to history × Tells before after (codes "no memory\n")
-SimEnds seed from to before after history BadWords = ⊥
-SimEnds seed from to before after history (Illegal line rule) = ⊥
+-- a script was read, and its journal was not opened: nothing was played
+pub record IsUnopened {D : Type 0} (state : D → DiskState) (from to : SourceState) (history : List Event) (old new : D) : Type 0 where
+  pub script : Script
+  pub reads : ReadsScript from to script
+  pub nothing : history ≡ []
+  pub looks : Looks (state old) (state new)
+
+-- a simulation of what the source has left ends like this, with this history, over this disk
+abbrev pub SimEnds : {D : Type 0} → (D → DiskState) → ℕ → SourceState → SourceState → SinkState → SinkState → D → D → List Event → Ending → Type 0
+SimEnds state seed from to before after old new history Told =
+    (script : Script) × (rows : Rows) × RunsScript state seed from to script rows history old new
+    × Appends before.written after.written (report script rows history)
+SimEnds state seed from to before after old new history WriteFault =
+    (script : Script) × (rows : Rows) × RunsScript state seed from to script rows history old new
+    × AddsPrefix before after (report script rows history) × Rose before.faults after.faults
+SimEnds state seed from to before after old new history (BadLine n) =
+    ReadsBadLine from to n × (history ≡ []) × (new ≡ old) × Tells before after (codes "bad line " ++ (decimal n ++ codes "\n"))
+SimEnds state seed from to before after old new history ReadFault =
+    Rose from.faults to.faults × (history ≡ []) × (new ≡ old) × Tells before after (codes "read fault\n")
+SimEnds state seed from to before after old new history TooLong =
+    MovesExactly from to (input_limit + 1) × (history ≡ []) × (new ≡ old) × Tells before after (codes "too long\n")
+SimEnds state seed from to before after old new history DiskFault =
+    IsUnopened state from to history old new × Rose (state old).faults (state new).faults × Tells before after (codes "disk fault\n")
+SimEnds state seed from to before after old new history (Damaged place) =
+    IsUnopened state from to history old new × IsDamagedAt (state old) place
+    × Tells before after (codes "damaged " ++ (decimal place ++ codes "\n"))
+SimEnds state seed from to before after old new history NoMemory =
+    IsSoFar state seed from to history old new × Tells before after (codes "no memory\n")
+SimEnds state seed from to before after old new history BadWords = ⊥
+SimEnds state seed from to before after old new history (Illegal line rule) = ⊥
 
 -- the outcome
 
@@ -118,18 +134,32 @@ SimEnds seed from to before after history (Illegal line rule) = ⊥
 abbrev pub IsCalm : SourceState → SourceState → SinkState → SinkState → Type 0
 IsCalm from to before after = (¬ Rose from.faults to.faults) × (¬ Rose before.faults after.faults)
 
--- What `sim` leaves: its status and its history.
-pub record SimOutcome (words : List (List ℕ)) (from to : SourceState) (before after : SinkState) (status : ℕ) (history : List Event) : Type 0 where
-  -- status 2 comes exactly where the words are not those of `sim`; nothing is read then
+-- a script was run, or memory was wanting, or the disk failed at opening, or the journal is damaged
+abbrev pub IsRunOrNot : DiskState → DiskState → ℕ → Type 0
+IsRunOrNot old new status =
+    (status ≡ 0) ⊎ (status ≡ 9) ⊎ ((status ≡ 6) × Rose old.faults new.faults) ⊎ ((status ≡ 7) × ((place : ℕ) × IsDamagedAt old place))
+
+-- the journal was told to be damaged, or memory was wanting, or the disk failed at opening
+abbrev pub IsDamagedOrNot : DiskState → DiskState → ℕ → Type 0
+IsDamagedOrNot old new status = (status ≡ 7) ⊎ (status ≡ 9) ⊎ ((status ≡ 6) × Rose old.faults new.faults)
+
+-- What `sim` leaves: its status, its history and its disk.
+pub record SimOutcome {D : Type 0} (state : D → DiskState) (words : List (List ℕ)) (from to : SourceState) (before after : SinkState) (old new : D) (status : ℕ) (history : List Event) : Type 0 where
+  -- status 2 comes exactly where the words are not those of `sim`; nothing is read then, and the disk is left alone
   pub bad_words : (status ≡ 2) ↔ (¬ IsSim words)
-  pub refused : ¬ IsSim words → (to ≡ from) × (history ≡ []) × Tells before after (codes "bad words\n")
+  pub refused : ¬ IsSim words → (to ≡ from) × (history ≡ []) × (new ≡ old) × Tells before after (codes "bad words\n")
   -- else it ends in one of these ways, with the status of that way
-  pub ends : (sim : IsSim words) → (ending : Ending) × (status ≡ status_of ending) × SimEnds sim.0 from to before after history ending
+  pub ends : (sim : IsSim words) → (ending : Ending) × (status ≡ status_of ending) × SimEnds state sim.0 from to before after old new history ending
   -- at most one byte more than an input may have is read
   pub most : MovesUpTo from to (input_limit + 1)
-  -- a script is run and reported, unless a call of the outside fails or memory is wanting
+  -- a script is run and reported, unless a call of the outside fails, the journal is damaged, or memory is wanting
   pub complete : IsSim words → IsCalm from to before after →
-      IfSome from.left (λ bytes. length bytes ≤ input_limit → (script : Script) → IsScript bytes script → (status ≡ 0) ⊎ (status ≡ 9))
+      IfSome from.left (λ bytes. length bytes ≤ input_limit → (script : Script) → IsScript bytes script → IsRunOrNot (state old) (state new) status)
+  -- a journal that is damaged is told to be
+  pub damaged : IsSim words → IsCalm from to before after →
+      IfSome from.left (λ bytes. length bytes ≤ input_limit → (script : Script) → IsScript bytes script →
+      (read : List ℕ) (place : ℕ) → (state old).content ≡ Some read → journal service_limits.journal read ≡ Err place →
+      IsDamagedOrNot (state old) (state new) status)
   -- what is no script is told to be none
   pub no_script : IsSim words → IsCalm from to before after →
       IfSome from.left (λ bytes. length bytes ≤ input_limit → ((script : Script) → ¬ IsScript bytes script) → (status ≡ 3) ⊎ (status ≡ 9))
@@ -184,20 +214,43 @@ Writes (Err e) before after NoMemory = Tells before after (codes "no memory\n")
 Writes _ before after _ = ⊥
 
 -- a run was reported, or why not
-abbrev pub ReportsRun : Script → List Event → Bool → SinkState → SinkState → Ending → Type 0
-ReportsRun script history whole before after Told =
-    (whole ≡ true) × Appends before.written after.written (report script history)
-ReportsRun script history whole before after WriteFault =
-    (whole ≡ true) × AddsPrefix before after (report script history) × Rose before.faults after.faults
-ReportsRun script history whole before after NoMemory = Tells before after (codes "no memory\n")
-ReportsRun script history whole before after _ = ⊥
+abbrev pub ReportsRun : Script → Rows → List Event → Bool → SinkState → SinkState → Ending → Type 0
+ReportsRun script rows history whole before after Told =
+    (whole ≡ true) × Appends before.written after.written (report script rows history)
+ReportsRun script rows history whole before after WriteFault =
+    (whole ≡ true) × AddsPrefix before after (report script rows history) × Rose before.faults after.faults
+ReportsRun script rows history whole before after NoMemory = Tells before after (codes "no memory\n")
+ReportsRun script rows history whole before after _ = ⊥
 
--- a script was played and reported, or why not
-abbrev pub PlaysScript : ℕ → Script → List Event → SinkState → SinkState → Ending → Type 0
-PlaysScript seed script history before after Told =
-    IsPlayed seed script history true × Appends before.written after.written (report script history)
-PlaysScript seed script history before after WriteFault =
-    IsPlayed seed script history true × AddsPrefix before after (report script history) × Rose before.faults after.faults
-PlaysScript seed script history before after NoMemory =
-    IsPlayed seed script history false × Tells before after (codes "no memory\n")
-PlaysScript seed script history before after _ = ⊥
+-- what is told where a journal was not opened, and how that ends
+abbrev pub TellsFault : OpenFault → SinkState → SinkState → Ending → Type 0
+TellsFault refusal.Memory before after NoMemory = Tells before after (codes "no memory\n")
+TellsFault refusal.DiskFault before after DiskFault = Tells before after (codes "disk fault\n")
+TellsFault (refusal.Damaged place) before after (Damaged told) =
+    (told ≡ place) × Tells before after (codes "damaged " ++ (decimal place ++ codes "\n"))
+TellsFault (refusal.Damaged place) before after NoMemory = Tells before after (codes "no memory\n")
+TellsFault fault before after _ = ⊥
+
+-- why a journal was not opened
+abbrev pub NotOpened : DiskState → DiskState → SinkState → SinkState → Ending → Type 0
+NotOpened old new before after DiskFault = Rose old.faults new.faults × Tells before after (codes "disk fault\n")
+NotOpened old new before after (Damaged place) =
+    IsDamagedAt old place × Tells before after (codes "damaged " ++ (decimal place ++ codes "\n"))
+NotOpened old new before after NoMemory = Tells before after (codes "no memory\n")
+NotOpened old new before after _ = ⊥
+
+-- a script was played over a disk and reported, or why not
+abbrev pub PlaysScript : {D : Type 0} → (D → DiskState) → ℕ → Script → List Event → SinkState → SinkState → D → D → Ending → Type 0
+PlaysScript state seed script history before after old new Told =
+    (rows : Rows) × RunsOver state seed script rows history true old new × Appends before.written after.written (report script rows history)
+PlaysScript state seed script history before after old new WriteFault =
+    (rows : Rows) × RunsOver state seed script rows history true old new
+    × AddsPrefix before after (report script rows history) × Rose before.faults after.faults
+PlaysScript state seed script history before after old new NoMemory =
+    (((history ≡ []) × Looks (state old) (state new)) ⊎ ((rows : Rows) × RunsOver state seed script rows history false old new))
+    × Tells before after (codes "no memory\n")
+PlaysScript state seed script history before after old new DiskFault =
+    (history ≡ []) × Looks (state old) (state new) × NotOpened (state old) (state new) before after DiskFault
+PlaysScript state seed script history before after old new (Damaged place) =
+    (history ≡ []) × Looks (state old) (state new) × NotOpened (state old) (state new) before after (Damaged place)
+PlaysScript state seed script history before after old new _ = ⊥

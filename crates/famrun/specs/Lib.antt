@@ -2,3 +2,4 @@ pub mod Ending
 pub mod Making
 pub mod Auditing
 pub mod Commands
+pub mod OverDisk

@@ -16,7 +16,8 @@ use Rattle.fam_trial.specs.Trial.{trial_line}
 use Rattle.famrun.specs.declared.ending.Ending.{Ending}
 use Rattle.famrun.specs.declared.ending.Ending.TheVariants.{Told, WriteFault, NoMemory}
 use Rattle.famrun.specs.declared.wanted.Wanted.{Wanted}
-use Rattle.famrun.specs.Ending.{IsPlayed, Tells, status_of}
+use Rattle.famrun.specs.Ending.{Tells, status_of}
+use Rattle.famrun.specs.OverDisk.{IsPlayed}
 
 -- words
 
@@ -53,7 +54,7 @@ MakeEnds wanted before after _ = ⊥
 pub record IsTrial (wanted : Wanted) (line : List ℕ) : Type 0 where
   pub history : List Event
   pub state : State
-  pub played : IsPlayed wanted.seed (made_script wanted.seed wanted.programs wanted.calls) history true
+  pub played : IsPlayed wanted.seed common_rows (made_script wanted.seed wanted.programs wanted.calls) history true 0 0
   pub reached : state_after service_limits (opening common_rows (made_script wanted.seed wanted.programs wanted.calls)) history ≡ Some state
   pub is : line ≡ trial_line wanted.seed wanted.programs wanted.calls history state
 

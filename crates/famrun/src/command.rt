@@ -3,7 +3,7 @@
 ghost use Rattle.std.specs.Prelude.{◌≡◌, ◌↔◌, ◌∷◌, [], ◌≢◌, map, string_bytes, codes, IsTrue};
 ghost use Rattle.fam_io.specs.State.{no_source};
 ghost use Rattle.famrun.specs.Commands.{Audits, BeginsWith, MakesScript};
-ghost use Rattle.famrun.specs.Ending.{SimOutcome, TellsText};
+ghost use Rattle.famrun.specs.Ending.{IsSim, SimOutcome, TellsText};
 ghost use Rattle.famrun.specs.Making.{MakeEnds, TrialEnds};
 
 use crate::audit::audit_main;
@@ -11,6 +11,7 @@ use crate::ending::Ending;
 use crate::make::make_main;
 use crate::sim::{Outcome, sim_main};
 use crate::trial::trial_main;
+use fam_disk::Disk;
 use fam_io::{Sink, Source, write_all};
 use std::alloc::Global;
 
@@ -27,6 +28,7 @@ usage:
 
 SEED is a number below 2^64, PES 1 to 64, CALLS 0 to 4000, in decimal digits.
 The script of sim comes on standard input, and for audit the script with its report behind it.
+The regions and items that sim makes are kept in the file fam.journal of the current folder.
 ";
 
 /// What `--version` tells.
@@ -36,12 +38,13 @@ pub const VERSION: &str = "famrun 0.1.0
 /// The program's commands, by their words: `audit`, `make` and `trial` go by `audit_main`, `make_main` and `trial_main`, and
 /// what else there is by `sim_main`. `--help` and `--version` write a text and read nothing; their status is 0, or 5 where the
 /// sink failed and a prefix of the text is written.
-pub fn fam_main<S: Source, K: Sink>(
+pub fn fam_main<S: Source, K: Sink, D: Disk>(
     alloc: Global,
     words: &[String],
     input: &mut S,
     output: &mut K,
-) -> Outcome
+    disk: D,
+) -> Outcome<D>
     ensures help { map string_bytes words.now ≡ codes "--help" ∷ [] →
         TellsText (S.source input.old) (S.source input.new) (K.sink output.old) (K.sink output.new)
         result.status result.history.items HELP.now }
@@ -60,32 +63,35 @@ pub fn fam_main<S: Source, K: Sink>(
     ensures sim { map string_bytes words.now ≢ codes "--help" ∷ [] → map string_bytes words.now ≢ codes "--version" ∷ [] →
         ¬ BeginsWith (codes "audit") (map string_bytes words.now) →
         ¬ BeginsWith (codes "make") (map string_bytes words.now) → ¬ BeginsWith (codes "trial") (map string_bytes words.now) →
-        SimOutcome (map string_bytes words.now) (S.source input.old) (S.source input.new)
-        (K.sink output.old) (K.sink output.new) result.status result.history.items }
+        SimOutcome D.state (map string_bytes words.now) (S.source input.old) (S.source input.new)
+        (K.sink output.old) (K.sink output.new) disk result.disk result.status result.history.items }
+    ensures disk { ¬ IsSim (map string_bytes words.now) → result.disk ≡ disk }
 {
     if is_word(words, "--help") {
-        tell_text(alloc, output, HELP)
+        tell_text(alloc, output, HELP, disk)
     } else if is_word(words, "--version") {
-        tell_text(alloc, output, VERSION)
+        tell_text(alloc, output, VERSION, disk)
     } else if begins_with(words, "audit") {
-        without_history(alloc, audit_main(alloc, words, input, output))
+        without_history(alloc, audit_main(alloc, words, input, output), disk)
     } else if begins_with(words, "make") {
-        without_history(alloc, make_main(alloc, words, output))
+        without_history(alloc, make_main(alloc, words, output), disk)
     } else if begins_with(words, "trial") {
-        without_history(alloc, trial_main(alloc, words, output))
+        without_history(alloc, trial_main(alloc, words, output), disk)
     } else {
-        sim_main(alloc, words, input, output)
+        sim_main(alloc, words, input, output, disk)
     }
 }
 
 /// The outcome of a command that plays nothing of the input.
-fn without_history(alloc: Global, status: u8) -> Outcome
+fn without_history<D: Disk>(alloc: Global, status: u8, disk: D) -> Outcome<D>
     ensures status { result.status ≡ status }
     ensures history { result.history.items ≡ [] }
+    ensures disk { result.disk ≡ disk }
 {
     Outcome {
         status,
         history: Vec::new(alloc),
+        disk,
     }
 }
 
@@ -110,9 +116,10 @@ fn is_word(words: &[String], word: &str) -> bool
 }
 
 /// Writes a text.
-fn tell_text<K: Sink>(alloc: Global, output: &mut K, text: &str) -> Outcome
-    ensures { TellsText no_source no_source (K.sink output.old) (K.sink output.new)
+fn tell_text<K: Sink, D: Disk>(alloc: Global, output: &mut K, text: &str, disk: D) -> Outcome<D>
+    ensures text { TellsText no_source no_source (K.sink output.old) (K.sink output.new)
         result.status result.history.items text.now }
+    ensures disk { result.disk ≡ disk }
 {
     let ending = match write_all(output, text.as_bytes()) {
         Ok(()) => Ending::Told,
@@ -121,5 +128,6 @@ fn tell_text<K: Sink>(alloc: Global, output: &mut K, text: &str) -> Outcome
     Outcome {
         status: ending.status(),
         history: Vec::new(alloc),
+        disk,
     }
 }

@@ -18,6 +18,10 @@ pub enum Ending {
     ReadFault,
     /// The sink failed; a part of what was asked stands on the output.
     WriteFault,
+    /// The disk failed while the journal was opened.
+    DiskFault,
+    /// The journal is damaged; the place is told.
+    Damaged(u64),
     /// Memory was wanting.
     NoMemory,
     /// The input has more than 16,777,216 bytes.
@@ -35,6 +39,8 @@ impl Ending {
             Ending::BadLine(_) => 3,
             Ending::ReadFault => 4,
             Ending::WriteFault => 5,
+            Ending::DiskFault => 6,
+            Ending::Damaged(_) => 7,
             Ending::Illegal(..) => 8,
             Ending::NoMemory => 9,
             Ending::TooLong => 10,

@@ -1,6 +1,7 @@
 //! Scripts that are made and tried, seen from outside.
 
 use crate::command::fam_main;
+use crate::tests::empty_disk;
 use fam_base::{Bytes, Places};
 use fam_io::{MemSink, MemSource};
 use std::alloc::Global;
@@ -34,7 +35,7 @@ fn run(alloc: Global, line: &str, failing_writes: &[u64]) -> Result<Left, Fail> 
     }
     let mut input = MemSource::new(Bytes::of(alloc, &[])?, Places::of(alloc, &[])?);
     let mut output = MemSink::new(alloc, Places::of(alloc, failing_writes)?);
-    let outcome = fam_main(alloc, &words, &mut input, &mut output);
+    let outcome = fam_main(alloc, &words, &mut input, &mut output, empty_disk(alloc)?);
     Ok(Left {
         status: outcome.status,
         output: Bytes::of(alloc, output.written())?,

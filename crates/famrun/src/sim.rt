@@ -1,29 +1,28 @@
 //! The command `sim`: reads a script, plays it on one thread, and reports its history.
 
-ghost use Rattle.std.specs.Prelude.{◌≡◌, ◌+◌, map, string_bytes, true, length, codes, IfOk, IfErr, MatchOption};
+ghost use Rattle.std.specs.Prelude.{◌≡◌, ◌+◌, map, string_bytes, codes, IfOk, IfErr, MatchOption};
 ghost use Rattle.fam_io.specs.State.{MovesUpTo};
-ghost use Rattle.fam_model.specs.Grammar.{IsLawfulScript};
-ghost use Rattle.fam_model.specs.ReportText as texts;
-ghost use Rattle.famrun.specs.Ending.{input_limit, HasSeed, IsSim, IsTold, PlaysScript, ReadsScript, ReportsRun, SimEnds, SimOutcome, Tells, Unread, Writes};
+ghost use Rattle.famrun.specs.Ending.{input_limit, HasSeed, IsSim, IsTold, ReadsScript, SimEnds, SimOutcome, Tells, Unread, Writes};
 
 use crate::ending::Ending;
+use crate::playing::{Played, play_script};
 use crate::reading::{read_input, script_of};
-use fam_base::{NoMemory, Sequence};
-use fam_core::{Simulated, simulate};
+use fam_base::NoMemory;
+use fam_disk::Disk;
 use fam_io::{Sink, Source, write_all};
-use fam_model::{Event, Report, Script};
-use fam_rows::common_rows;
+use fam_model::{Event, Script};
 use fam_script::number_in;
-use fam_text::text_of;
 use std::alloc::Global;
 
-/// What a command leaves: the status of its process, and the history of its run.
+/// What a command leaves: the status of its process, the history of its run, and the disk.
 #[derive(Drop)]
-pub struct Outcome {
+pub struct Outcome<D: Disk> {
     /// 0 where all went well.
     pub status: u8,
     /// The run, or the run so far; empty where nothing ran.
     pub history: Vec<Event>,
+    /// The disk, with its journal.
+    pub disk: D,
 }
 
 /// The seed, where the words are those of `sim`.
@@ -104,105 +103,66 @@ pub fn write_report<K: Sink>(text: Result<Vec<u8>, NoMemory>, output: &mut K) ->
     }
 }
 
-/// Reports a run. The history is handed on.
-fn report_run<K: Sink>(
-    alloc: Global,
-    script: &Script,
-    simulated: Simulated,
-    output: &mut K,
-) -> (Ending, Vec<Event>)
-    requires { simulated.whole ≡ true → simulated.replies.items ≡ texts.reply_lines (length script.now.programs) simulated.history.items }
-    ensures history { result.1.items ≡ simulated.history.items }
-    ensures ending { ReportsRun script.now simulated.history.items simulated.whole (K.sink output.old) (K.sink output.new) result.0 }
-{
-    let Simulated {
-        history,
-        replies,
-        whole,
-    } = simulated;
-    // The contract alone speaks of it.
-    let _script = script;
-    if !whole {
-        return (tell_no_memory(output), history);
-    }
-    let rows = match common_rows(alloc) {
-        Ok(rows) => rows,
-        Err(NoMemory) => return (tell_no_memory(output), history),
-    };
-    let report = Report {
-        replies: Sequence::from_vec(replies),
-        rows,
-        history: Sequence::from_vec(history),
-    };
-    let text = text_of(alloc, &report);
-    let history = report.history.into_vec();
-    (write_report(text, output), history)
-}
-
-/// Plays a script and reports the run.
-fn play_script<K: Sink>(
-    alloc: Global,
-    script: &Script,
-    seed: u64,
-    output: &mut K,
-) -> (Ending, Vec<Event>)
-    requires { IsLawfulScript script.now }
-    ensures { PlaysScript seed script.now result.1.items (K.sink output.old) (K.sink output.new) result.0 }
-{
-    let rows = match common_rows(alloc) {
-        Ok(rows) => rows,
-        Err(NoMemory) => return (tell_no_memory(output), Vec::new(alloc)),
-    };
-    let simulated = simulate(alloc, rows, script, seed);
-    report_run(alloc, script, simulated, output)
-}
-
 /// Simulates what the source has left.
-fn simulate_source<S: Source, K: Sink>(
+fn simulate_source<S: Source, K: Sink, D: Disk>(
     alloc: Global,
     seed: u64,
     input: &mut S,
     output: &mut K,
-) -> (Ending, Vec<Event>)
-    ensures ends { SimEnds seed (S.source input.old) (S.source input.new) (K.sink output.old) (K.sink output.new)
-        result.1.items result.0 }
+    disk: D,
+) -> Played<D>
+    ensures ends { SimEnds D.state seed (S.source input.old) (S.source input.new) (K.sink output.old) (K.sink output.new)
+        disk result.disk result.history.items result.ending }
     ensures most { MovesUpTo (S.source input.old) (S.source input.new) (input_limit + 1) }
 {
     match read_script(alloc, input) {
-        Ok(script) => play_script(alloc, &script, seed, output),
-        Err(ending) => (tell_unread(alloc, output, ending), Vec::new(alloc)),
+        Ok(script) => play_script(alloc, &script, seed, output, disk),
+        Err(ending) => Played {
+            ending: tell_unread(alloc, output, ending),
+            history: Vec::new(alloc),
+            disk,
+        },
     }
 }
 
-/// The command `sim SEED`: reads a script from the source, plays its programs side by side in the order that the seed draws,
-/// and writes the report of the history.
+/// The command `sim SEED`: reads a script from the source, opens the journal of the disk, plays the script's programs side by
+/// side in the order that the seed draws, and writes the report of the history. The regions and items that the journal has are
+/// there from the start, with zero bytes. Each change of the directory is on the disk before it is served.
 ///
 /// The history is one legal run of the memory machine that follows the script, and the one that the schedule gives for the
-/// seed, also where a write failed or memory was wanting; it is then the run so far.
+/// seed, but for changes that the disk refused; also where a write failed or memory was wanting: it is then the run so far.
 ///
 /// The status is 0 where the report is written, and else tells why not, with a line on the output: 2 other words than
-/// those of `sim`, 3 the input is no script, 4 the source failed, 9 memory was wanting, 10 the input has
-/// more than 16,777,216 bytes. At 5 the sink failed, and a prefix of the report is written. At 2, 3, 4 and 10 nothing was
-/// played, and at 2 nothing was read.
-pub fn sim_main<S: Source, K: Sink>(
+/// those of `sim`, 3 the input is no script, 4 the source failed, 6 the disk failed while the journal was opened, 7 the journal
+/// is damaged, 9 memory was wanting, 10 the input has more than 16,777,216 bytes. At 5 the sink failed, and a prefix of the
+/// report is written. At 2, 3, 4, 6, 7 and 10 nothing was played, at 2, 3, 4 and 10 the disk is as it was, and at 2 nothing was
+/// read.
+pub fn sim_main<S: Source, K: Sink, D: Disk>(
     alloc: Global,
     words: &[String],
     input: &mut S,
     output: &mut K,
-) -> Outcome
-    ensures { SimOutcome (map string_bytes words.now) (S.source input.old) (S.source input.new)
-        (K.sink output.old) (K.sink output.new) result.status result.history.items }
+    disk: D,
+) -> Outcome<D>
+    ensures { SimOutcome D.state (map string_bytes words.now) (S.source input.old) (S.source input.new)
+        (K.sink output.old) (K.sink output.new) disk result.disk result.status result.history.items }
 {
     let Some(seed) = seed_of(words) else {
         tell(output, b"bad words\n");
         return Outcome {
             status: Ending::BadWords.status(),
             history: Vec::new(alloc),
+            disk,
         };
     };
-    let (ending, history) = simulate_source(alloc, seed, input, output);
+    let Played {
+        ending,
+        history,
+        disk,
+    } = simulate_source(alloc, seed, input, output, disk);
     Outcome {
         status: ending.status(),
         history,
+        disk,
     }
 }

@@ -2,6 +2,7 @@
 
 use crate::command::{HELP, VERSION, fam_main};
 use fam_base::{Bytes, Places};
+use fam_disk::MemDisk;
 use fam_io::{MemSink, MemSource};
 use fam_model::{Event, Reply, What};
 use std::alloc::Global;
@@ -31,12 +32,24 @@ fn sim<'a>(input: &'a [u8], status: u8, output: &'a [u8]) -> Run<'a> {
     }
 }
 
-fn strings(alloc: Global, words: &[&str]) -> Result<Vec<String>, Fail> {
+/// Words as the program gets them.
+pub fn strings(alloc: Global, words: &[&str]) -> Result<Vec<String>, Fail> {
     let mut all = Vec::new(alloc);
     for word in words {
         all.push(String::from_str(alloc, word)?)?;
     }
     Ok(all)
+}
+
+/// A disk with nothing on it, whose calls do not fail.
+pub fn empty_disk(alloc: Global) -> Result<MemDisk, Fail> {
+    Ok(MemDisk::new(
+        alloc,
+        Bytes::of(alloc, &[])?,
+        Places::of(alloc, &[])?,
+        Places::of(alloc, &[])?,
+        Places::of(alloc, &[])?,
+    ))
 }
 
 /// Runs the program and compares its status and its output.
@@ -47,7 +60,7 @@ fn check(rt: &impl Abort, alloc: Global, run: &Run) -> Result<(), Fail> {
         Places::of(alloc, run.failing_reads)?,
     );
     let mut output = MemSink::new(alloc, Places::of(alloc, run.failing_writes)?);
-    let outcome = fam_main(alloc, &words, &mut input, &mut output);
+    let outcome = fam_main(alloc, &words, &mut input, &mut output, empty_disk(alloc)?);
     assert_eq!(rt; outcome.status, run.status);
     assert_eq!(rt; output.written(), run.output);
     Ok(())
@@ -115,7 +128,7 @@ fn begins(
         Places::of(alloc, &[])?,
     );
     let mut output = MemSink::new(alloc, Places::of(alloc, &[])?);
-    let outcome = fam_main(alloc, &words, &mut input, &mut output);
+    let outcome = fam_main(alloc, &words, &mut input, &mut output, empty_disk(alloc)?);
     assert_eq!(rt; outcome.status, 0, "{script}");
     assert!(rt; output.written().starts_with(front.as_bytes()), "{script}");
     Ok(())
@@ -474,7 +487,7 @@ fn history(rt: &impl Abort, alloc: Global, script: &str) -> Result<Vec<Event>, F
         Places::of(alloc, &[])?,
     );
     let mut output = MemSink::new(alloc, Places::of(alloc, &[])?);
-    let outcome = fam_main(alloc, &words, &mut input, &mut output);
+    let outcome = fam_main(alloc, &words, &mut input, &mut output, empty_disk(alloc)?);
     assert_eq!(rt; outcome.status, 0);
     Ok(outcome.history)
 }
@@ -518,7 +531,13 @@ fn loses_what_a_crash_leaves(rt: HostRuntime) -> Result<(), Fail> {
         Places::of(rt.alloc(), &[])?,
     );
     let mut output = MemSink::new(rt.alloc(), Places::of(rt.alloc(), &[])?);
-    let outcome = fam_main(rt.alloc(), &words, &mut input, &mut output);
+    let outcome = fam_main(
+        rt.alloc(),
+        &words,
+        &mut input,
+        &mut output,
+        empty_disk(rt.alloc())?,
+    );
     assert_eq!(rt; outcome.status, 0);
     assert!(rt; output.written().ends_with(b"0.3 crash\n0.2 lose 0\ndone\n"));
     Ok(())

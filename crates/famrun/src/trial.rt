@@ -8,7 +8,9 @@ use crate::sim::{tell, write_report};
 use crate::wanted::{Wanted, asked_for};
 use fam_base::NoMemory;
 use fam_core::play_script;
+use fam_disk::MemDisk;
 use fam_io::Sink;
+use fam_keeper::Keeper;
 use fam_rows::common_rows;
 use fam_trial::{made_script, trial_line};
 use std::alloc::Global;
@@ -20,7 +22,8 @@ fn line(alloc: Global, wanted: Wanted) -> Result<Vec<u8>, NoMemory>
 {
     let script = made_script(alloc, wanted.seed, wanted.programs, wanted.calls)?;
     let rows = common_rows(alloc)?;
-    let played = play_script(alloc, rows, &script, wanted.seed)?;
+    let mut keeper = Keeper::<MemDisk>::nothing();
+    let played = play_script(alloc, rows, &script, wanted.seed, &mut keeper)?;
     if !played.whole {
         return Err(NoMemory);
     }

@@ -12,7 +12,13 @@ use std::alloc::Global;
 
 mod adding;
 mod appending;
+#[cfg(test)]
+mod crash_tests;
+#[cfg(test)]
+mod kept;
 mod opening;
+#[cfg(test)]
+mod opening_tests;
 mod reserving;
 mod settling;
 mod switching;

@@ -2,7 +2,7 @@
 
 ghost use Rattle.std.specs.Prelude.{◌≡◌, ℕ, ◌+◌, ◌<◌, ◌≤◌, ◌^◌, length, IfOk, IfErr, IfSome, IfNone, Ok, Err};
 ghost use Rattle.std.specs.Option.{option_map};
-ghost use Rattle.fam_model.specs.Rows.{IsLawful, common_rows as the_common_rows};
+ghost use Rattle.fam_model.specs.Rows.{common_rows as the_common_rows};
 ghost use Rattle.meta_journal.specs.Opened.{AreBytes};
 ghost use Rattle.meta_journal.specs.Opening.{Fails, Gives, read_from};
 ghost use Rattle.meta_journal.specs.Reading.{body_at as body_in, change_at as change_in};
@@ -10,15 +10,16 @@ ghost use Rattle.meta_journal.specs.Versions.{may_hold as may_be_held, fits_firs
 ghost use Rattle.meta_journal.specs.declared.reading.Unread.TheVariants.{Damaged, Memory};
 
 use fam_base::NoMemory;
-use fam_model::{Change, Rows};
-use fam_rows::{apply, common_rows, is_lawful_change};
+use fam_directory::IndexedRows;
+use fam_model::Change;
+use fam_rows::common_rows;
 use meta_codec::decode;
 use std::alloc::Global;
 
 /// What records lead to.
 #[derive(Drop)]
 pub(crate) struct Records {
-    pub(crate) rows: Rows,
+    pub(crate) rows: IndexedRows,
     /// The place behind them, counted from 16.
     pub(crate) place: u64,
 }
@@ -43,7 +44,6 @@ impl From<NoMemory> for Unread {
 pub(crate) fn read_records(alloc: Global, is_first: bool, bytes: &[u8]) -> Result<Records, Unread>
     requires { length bytes.now ≤ 2 ^ 24 }
     ensures read { Gives result (read_from is_first the_common_rows 16 bytes.now) }
-    ensures lawful { IfOk result (λ records. IsLawful records.rows) }
     ensures bytes { AreBytes bytes.now }
     ensures inside { 0 < length bytes.now → IfOk result (λ records. (16 ≤ records.place) × (records.place < 16 + length bytes.now)) }
     ensures damaged { IfErr result (λ unread. (place : ℕ) → unread ≡ Damaged place → (16 ≤ place) × (place < 16 + length bytes.now)) }
@@ -55,10 +55,9 @@ pub(crate) fn read_records(alloc: Global, is_first: bool, bytes: &[u8]) -> Resul
 fn take_all(alloc: Global, is_first: bool, bytes: &[u8]) -> Result<Records, Unread>
     requires { length bytes.now ≤ 2 ^ 24 }
     ensures read { Gives result (read_from is_first the_common_rows 16 bytes.now) }
-    ensures lawful { IfOk result (λ records. IsLawful records.rows) }
 {
     let mut records = Records {
-        rows: common_rows(alloc)?,
+        rows: IndexedRows::of_rows(alloc, &common_rows(alloc)?)?,
         place: 16,
     };
     let mut rest = bytes;
@@ -78,9 +77,7 @@ fn read_one<'a>(
     records: &mut Records,
     bytes: &'a [u8],
 ) -> Result<Option<&'a [u8]>, Unread>
-    requires lawful { IsLawful records.old.rows }
-    requires room { records.old.place + length bytes.now ≤ 2 ^ 25 }
-    ensures lawful { IsLawful records.new.rows }
+    requires { records.old.place + length bytes.now ≤ 2 ^ 25 }
     ensures more { IfOk result (λ found. IfSome found (λ after. read_from is_first records.old.rows records.old.place bytes.now
         ≡ read_from is_first records.new.rows records.new.place after.now)) }
     ensures shorter { IfOk result (λ found. IfSome found (λ after. length after.now < length bytes.now)) }
@@ -94,7 +91,7 @@ fn read_one<'a>(
     }
     match change_at(alloc, is_first, &records.rows, &bytes[1..])? {
         Some((change, after)) => {
-            apply(alloc, &mut records.rows, change)?;
+            records.rows.apply(&change)?;
             records.place += (bytes.len() - after.len()) as u64;
             Ok(Some(after))
         }
@@ -107,10 +104,9 @@ fn read_one<'a>(
 fn change_at<'a>(
     alloc: Global,
     is_first: bool,
-    rows: &Rows,
+    rows: &IndexedRows,
     bytes: &'a [u8],
 ) -> Result<Option<(Change, &'a [u8])>, NoMemory>
-    requires { IsLawful rows.now }
     ensures { IfOk result (λ found. option_map (λ f. (f.0, f.1.now)) found ≡ change_in is_first rows.now bytes.now) }
 {
     let Some((body, rest)) = body_at(bytes) else {
@@ -144,24 +140,23 @@ fn body_at(bytes: &[u8]) -> Option<(&[u8], &[u8])>
 }
 
 /// Whether a journal may hold the change behind these rows.
-fn may_hold(is_first: bool, rows: &Rows, change: &Change) -> bool
-    requires { IsLawful rows.now }
+fn may_hold(is_first: bool, rows: &IndexedRows, change: &Change) -> bool
     ensures { result ≡ may_be_held is_first rows.now change.now }
 {
     if is_first {
-        is_lawful_change(rows, change) && fits_first_version(rows, change)
+        rows.is_lawful_change(change) && fits_first_version(rows, change)
     } else {
-        is_lawful_change(rows, change)
+        rows.is_lawful_change(change)
     }
 }
 
 /// The first version has shorter names, and fewer regions and items.
-fn fits_first_version(rows: &Rows, change: &Change) -> bool
+fn fits_first_version(rows: &IndexedRows, change: &Change) -> bool
     ensures { result ≡ fits_version rows.now change.now }
 {
     match change {
-        Change::CreateRegion { name, .. } => name.len() <= 32 && rows.regions.len() < 1024,
-        Change::Allocate { name, .. } => name.len() <= 32 && rows.items.len() < 16_384,
+        Change::CreateRegion { name, .. } => name.len() <= 32 && rows.region_count() < 1024,
+        Change::Allocate { name, .. } => name.len() <= 32 && rows.item_count() < 16_384,
         _ => true,
     }
 }

@@ -13,7 +13,7 @@ ghost use Rattle.meta_journal.specs.declared.starting.OpenFault.TheVariants.{Dam
 use crate::area::{Area, area_start as start_of_area, disk_place as place_on_disk};
 use crate::header::{Header, header_of};
 use crate::reading::{Records, Unread, read_records};
-use fam_base::Failed;
+use fam_base::{Failed, NoMemory};
 use fam_disk::{Disk, write_synced};
 use fam_model::Rows;
 use fam_rows::common_rows;
@@ -167,11 +167,14 @@ fn read_area<D: Disk>(
     let start = start_of_area(limit, header.area);
     let bytes = read_part(alloc, disk, start, (len - start).min(limit - 16))?;
     match read_records(alloc, header.is_first_version, bytes.as_slice()) {
-        Ok(Records { rows, place }) => Ok(Started {
-            area: header.area,
-            used: place,
-            rows,
-        }),
+        Ok(Records { rows, place }) => match rows.rows() {
+            Ok(rows) => Ok(Started {
+                area: header.area,
+                used: place,
+                rows,
+            }),
+            Err(NoMemory) => Err(OpenFault::Memory),
+        },
         Err(Unread::Memory) => Err(OpenFault::Memory),
         Err(Unread::Damaged(place)) => Err(OpenFault::Damaged(place_on_disk(
             limit,

@@ -2,5 +2,9 @@ pub mod Lists
 pub mod Parts
 pub mod Found
 pub mod Edits
+pub mod Cutting
+pub mod Freeing
+pub mod Fitting
+pub mod Apart
 pub mod Kept
 pub mod Bases

@@ -4,11 +4,10 @@ use Rattle.std.specs.List.{list_all, list_any}
 use Rattle.fam_model.specs.Rows.{room, bases_up_to}
 use Rattle.region_alloc.specs.declared.extent.Extent.{Extent}
 
--- a region of this size with its rooms in order of base; where it is ready, one more room takes no memory
+-- a region of this size with its rooms in order of base
 pub record Space : Type 0 where
   pub size : ℕ
   pub rooms : List Extent
-  pub is_ready : Bool
 
 -- where an extent ends
 abbrev pub end_of : Extent → ℕ
@@ -34,9 +33,9 @@ has_no_place space n = not (list_any (has_place space n) (bases_up_to space.size
 abbrev pub is_cut_at : ℕ → List Extent → Bool
 is_cut_at size rooms = list_any (λ taken. nat_lt size (end_of taken)) rooms
 
--- some room begins at base
-abbrev pub has_room : ℕ → List Extent → Bool
-has_room base rooms = list_any (λ taken. taken.base == base) rooms
+-- the room of n bytes at base is one of the rooms
+abbrev pub has_room : ℕ → ℕ → List Extent → Bool
+has_room base n rooms = list_any (λ taken. taken.base == base && taken.length == room n) rooms
 
 -- the room of n bytes at base
 abbrev pub room_at : ℕ → ℕ → Extent

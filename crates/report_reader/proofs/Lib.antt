@@ -11,7 +11,6 @@ pub mod RepliesBack
 pub mod ResultsRead
 pub mod RowsBack
 pub mod Runs
-pub mod Same
 pub mod Scanning
 pub mod Steps
 pub mod Words

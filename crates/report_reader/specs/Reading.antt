@@ -17,10 +17,8 @@ use Rattle.fam_model.specs.declared.reply.PieceAnswer.TheVariants as answer
 use Rattle.fam_model.specs.declared.reply.Reply.{Reply}
 use Rattle.fam_model.specs.declared.reply.Reply.TheVariants as reply
 use Rattle.fam_model.specs.declared.report.ReplyLine.{ReplyLine}
-use Rattle.fam_model.specs.declared.report.Report.{Report}
 use Rattle.fam_model.specs.declared.rows.ItemRow.{ItemRow}
 use Rattle.fam_model.specs.declared.rows.RegionRow.{RegionRow}
-use Rattle.fam_model.specs.declared.rows.Rows.{Rows}
 use Rattle.fam_model.specs.declared.script.Script.{Script}
 use Rattle.fam_model.specs.declared.script.Statement.{Statement, One}
 use Rattle.fam_model.specs.EventText.{event_text}
@@ -602,19 +600,3 @@ events_text count = words_text (codes "events" ∷ decimal count ∷ [])
 abbrev pub events_of : List ℕ → Option ℕ
 events_of text =
     two_of (parts 32 text) >>= λ w. number_of w.1 >>= λ n. when (bytes_eq (events_text n) text) n
-
--- reports with one line of their own, with which the text of a line is compared
-abbrev pub no_rows : Rows
-no_rows = record { regions = []; items = []; next_region = 0; next_item = 0 }
-
-abbrev pub reply_report : ReplyLine → Report
-reply_report told = record { replies = told ∷ []; rows = no_rows; history = [] }
-
-abbrev pub event_report : Event → Report
-event_report event = record { replies = []; rows = no_rows; history = event ∷ [] }
-
-abbrev pub region_report : RegionRow → Report
-region_report row = record { replies = []; rows = record no_rows { regions = row ∷ [] }; history = [] }
-
-abbrev pub item_report : ItemRow → Report
-item_report row = record { replies = []; rows = record no_rows { items = row ∷ [] }; history = [] }

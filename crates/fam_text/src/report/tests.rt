@@ -1,12 +1,10 @@
-use super::events::push_event;
-use super::replies::push_reply_line;
-use super::text_of;
+use super::{event_text, reply_line_text, text_of};
 use fam_base::{Bytes, Descriptor, FamError, ItemId, Mode, NoMemory, PeId, RegionId, Sequence};
 use fam_model::{
     Call, DataOp, Event, ItemRow, MetaCall, Op, OpResult, PieceAnswer, RegionInfo, RegionRow,
     Reply, ReplyLine, Report, Rows, What, Width,
 };
-use std::alloc::{AllocError, Global};
+use std::alloc::Global;
 use std::test::Fail;
 
 fn bytes(alloc: Global, from: &[u8]) -> Result<Bytes, NoMemory> {
@@ -33,16 +31,12 @@ fn event(call: u64, what: What) -> Event {
     }
 }
 
-fn told(alloc: Global, reply: Reply) -> Result<Vec<u8>, AllocError> {
-    let mut text = Vec::new(alloc);
-    push_reply_line(&mut text, &line(0, reply))?;
-    Ok(text)
+fn told(alloc: Global, reply: Reply) -> Result<Vec<u8>, NoMemory> {
+    reply_line_text(alloc, &line(0, reply), 0)
 }
 
-fn happened(alloc: Global, call: u64, what: What) -> Result<Vec<u8>, AllocError> {
-    let mut text = Vec::new(alloc);
-    push_event(&mut text, &event(call, what))?;
-    Ok(text)
+fn happened(alloc: Global, call: u64, what: What) -> Result<Vec<u8>, NoMemory> {
+    event_text(alloc, &event(call, what), 64)
 }
 
 fn issued(call: Call) -> What {

@@ -5,7 +5,7 @@ use Rattle.fam_keeper.proofs.appending.append.Goals as goal
 
 pub reserve-requires-clause-has_body : goal.reserve-requires-clause-has_body
 reserve-requires-clause-has_body g c κs within =
-    bodies c.args.rows.now c.requires.lawful c.args.change.now c.requires.lawful_change (subst (λ n. n < 2 ^ 32) c.group_of.ensures.value c.group_of.ensures.bound)
+    bodies c.args.rows.now c.rows_are_lawful.ensures c.args.change.now c.requires.lawful_change (subst (λ n. n < 2 ^ 32) c.group_of.ensures.value c.group_of.ensures.bound)
 
 pub returns-in-Ok : goal.returns-in-Ok
 returns-in-Ok g c =

@@ -5,8 +5,8 @@ use Rattle.fam_machine.proofs.Changes.{memory_with_new}
 use Rattle.fam_machine.proofs.memory.change.Goals as goal
 
 -- the bytes of the new item stand at the end, and the others stay
-pub returns-else-is_err-clause-memory : goal.returns-else-is_err-clause-memory
-returns-else-is_err-clause-memory c =
+pub returns-in-Some-clause-memory : goal.returns-in-Some-clause-memory
+returns-in-Some-clause-memory c =
     let made : new_bytes c.args.change ≡ (c.in-Some.item, replicate c.in-Some.size 0) ∷ [] = c.new_item.ensures ∙ ap zero_bytes c.in-Some.is in
     let after = memory_with_new c.args.rows.now c.args.change c.args.memory.now (c.in-Some.item, replicate c.in-Some.size 0) c.requires.lawful c.requires.filled made in
     let pushed : c.push.new.self ≡ c.args.memory.now ++ (c.in-Some.item, replicate c.in-Some.size 0) ∷ [] = search rules in

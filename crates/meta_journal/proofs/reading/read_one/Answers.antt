@@ -6,8 +6,8 @@ use Rattle.meta_journal.specs.Reading.{change_at}
 use Rattle.meta_journal.proofs.ReadBack.{taken_at, found}
 use Rattle.meta_journal.proofs.reading.read_one.Goals as goal
 
-pub apply-requires-clause-change : goal.apply-requires-clause-change
-apply-requires-clause-change c =
+pub apply-requires : goal.apply-requires
+apply-requires c =
     let old = c.args.records.now in
     let is : change_at c.args.is_first old.rows (take (length c.args.bytes.now - 1) (drop 1 c.args.bytes.now)) ≡ found c.in-Some.change c.in-Some.after.now = search rules in
     let some : 1 ≤ length c.args.bytes.now = grind (arith, nat_tests) in

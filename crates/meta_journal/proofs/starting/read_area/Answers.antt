@@ -1,3 +1,5 @@
+use Rattle.std.specs.Prelude.{Ok}
+use Rattle.fam_model.specs.declared.rows.Rows.{Rows}
 use Rattle.std.proofs.Common.{◌≡◌, ℕ, List, refl, sym, ◌∙◌, ap, subst, arith}
 use Rattle.meta_journal.specs.Layout.{area_bytes}
 use Rattle.meta_journal.specs.Opened.{AreBytes}
@@ -16,8 +18,8 @@ disk_place-requires-clause-within g c =
     let inside = (c.in-Err-Damaged.ensures.damaged c.in-Err-Damaged.place c.in-Err-Damaged.field-0-is).1 in
     omega (arith, inside, c.as_slice.ensures.len, c.in_ok-bytes.ensures.length, c.min.ensures, c.requires.low)
 
-pub returns-in-Ok-clause-found : goal.returns-in-Ok-clause-found
-returns-in-Ok-clause-found g c =
+pub returns-in-Ok-rows-clause-found : goal.returns-in-Ok-rows-clause-found
+returns-in-Ok-rows-clause-found g c =
     let content = (g.D.Disk.state c.args.disk.now).content in
     let header = c.args.header in
     if_told content _ (λ bytes told.
@@ -27,11 +29,12 @@ returns-in-Ok-clause-found g c =
     c.as_slice.ensures.value ∙ whole_area c.args.limit header.area bytes c.args.len _ _ _ c.area_start-start.ensures c.min.ensures long read in (
       refl,
       subst AreBytes whole c.in-Ok.ensures.bytes,
-      ap (λ (l : List ℕ). read_from header.is_first_version common_rows 16 l) (sym whole) ∙ c.in-Ok.ensures.read,
+      ap (λ (l : List ℕ). read_from header.is_first_version common_rows 16 l) (sym whole) ∙ c.in-Ok.ensures.read
+          ∙ ap (λ (rows : Rows). Ok (record c.in-Ok.field-0 { rows = rows })) (sym c.in-Ok-rows.ensures.rows),
     ))
 
-pub returns-in-Ok-clause-room : goal.returns-in-Ok-clause-room
-returns-in-Ok-clause-room g c =
+pub returns-in-Ok-rows-clause-room : goal.returns-in-Ok-rows-clause-room
+returns-in-Ok-rows-clause-room g c =
     let begins = c.area_start-start.ensures in
     let size = c.as_slice.ensures.len in
     let count = c.in_ok-bytes.ensures.length in

@@ -9,10 +9,10 @@ use Rattle.fam_machine.proofs.machine.Machine.opened.Goals as goal
 pub invariant_of-result : goal.invariant_of-result
 invariant_of-result c =
     let new : State = opened c.args.rows c.args.service c.args.whos.now c.args.local in
-    let same : new ≡ record { service = c.new.result; rows = c.args.rows; memory = c.in_ok-memory.memory; round = 0; programs = states_of c.in_ok-programs.programs } =
+    let same : new ≡ record { service = c.new.result; rows = c.in_ok-rows.rows; memory = c.in_ok-memory.memory; round = 0; programs = states_of c.in_ok-programs.programs } =
     λ i. record {
       service = sym c.new.ensures i;
-      rows = c.args.rows;
+      rows = sym c.in_ok-rows.ensures i;
       memory = sym c.in_ok-memory.ensures i;
       round = 0;
       programs = sym c.in_ok-programs.ensures i;

@@ -1,0 +1,15 @@
+use Rattle.std.proofs.Common.{sym, ◌∙◌, ap}
+use Rattle.fam_model.specs.Lists.{is_some_and}
+use Rattle.fam_model.specs.Rows.{fits}
+use Rattle.region_alloc.specs.Gaps.{space_with}
+use Rattle.region_alloc.proofs.Bases.{place_is_base}
+use Rattle.fam_directory.proofs.directory.Directory.fits.Goals as goal
+
+pub returns-in-Some : goal.returns-in-Some
+returns-in-Some c =
+    c.fits.ensures c.in-Some.ensures.entry.1.ranges.rooms c.in-Some.ensures.entry.1.ranges.held
+    ∙ place_is_base c.args.self.now.rows c.in-Some.region.now.row (space_with c.in-Some.region.now.room c.in-Some.ensures.entry.1.ranges.rooms) c.args.n c.args.base c.in-Some.ensures.entry.1.ranges.space
+    ∙ sym (ap (λ o. is_some_and o (λ row. fits c.args.self.now.rows row c.args.n c.args.base)) c.in-Some.ensures.entry.0)
+
+pub returns-in-None : goal.returns-in-None
+returns-in-None c = sym (ap (λ o. is_some_and o (λ row. fits c.args.self.now.rows row c.args.n c.args.base)) c.in-None.ensures.entry.0)

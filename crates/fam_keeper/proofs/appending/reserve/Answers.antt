@@ -1,8 +1,0 @@
-use Rattle.fam_keeper.proofs.Holding.{never_full}
-use Rattle.fam_keeper.proofs.appending.reserve.Goals as goal
-
-pub unreachable-requires : goal.unreachable-requires
-unreachable-requires g c =
-    let j = c.args.journal.now in
-    let full = c.in-Err-JournalFull in
-    never_full j.limit j.used c.args.rows.now c.args.change.now full.field-0 full.field-0-0 full.field-0-1 c.requires.kept.limit c.requires.lawful c.requires.has_body full.field-0-is c.in-Err-JournalFull.ensures.refused
