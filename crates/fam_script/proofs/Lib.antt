@@ -11,6 +11,7 @@ pub mod Numbers
 pub mod Parsed
 pub mod Runs
 pub mod Scans
+pub mod SingleLines
 pub mod Spelled
 pub mod Splits
 pub mod Tests

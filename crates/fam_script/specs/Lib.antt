@@ -1,4 +1,5 @@
 pub mod BadLine
+pub mod Lines
 pub mod Machine
 pub mod Parsing
 pub mod Reading

@@ -3,9 +3,11 @@
 ghost use Rattle.std.specs.Prelude.{◌≡◌, ℕ, IfOk, Err};
 ghost use Rattle.fam_model.specs.Grammar.{IsScript};
 ghost use Rattle.fam_script.specs.BadLine.{IsBadLine};
+ghost use Rattle.fam_script.specs.Lines.{IsLineOf};
 
 use fam_base::NoMemory;
-use fam_model::Script;
+use fam_model::{Line, Script};
+use line::line;
 use read::read;
 use std::alloc::Global;
 use thiserror::Error;
@@ -53,6 +55,13 @@ pub fn parse(alloc: Global, bytes: &[u8]) -> Result<Script, ScriptFault>
     ensures bad_line { (n : ℕ) → result ≡ Err (ScriptFault.BadLine n) → IsBadLine bytes.now n }
 {
     read(alloc, bytes)
+}
+
+/// The line of a script that the text is, without its line feed; none where it is the text of no lawful line.
+pub fn parse_line(alloc: Global, text: &[u8]) -> Result<Option<Line>, NoMemory>
+    ensures { IfOk result (IsLineOf text.now) }
+{
+    line(alloc, text)
 }
 
 #[cfg(test)]

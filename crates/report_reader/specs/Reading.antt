@@ -1,6 +1,6 @@
 -- How a line of a report is read. A reader need not believe any of this: it is proved that each line that has the form of one is
 -- read so, and no other text. Words are read loosely, and what they give is kept only where it prints as the text.
-use Rattle.std.specs.Prelude.{ℕ, Bool, true, false, not, ◌&&◌, ◌||◌, ◌==◌, List, [], ◌∷◌, ◌++◌, drop, take, codes, Option, Some, None, Result, Ok, Err, if◌then◌else◌}
+use Rattle.std.specs.Prelude.{ℕ, Bool, true, false, not, ◌&&◌, ◌||◌, ◌==◌, List, [], ◌∷◌, ◌++◌, drop, take, codes, Option, Some, None, if◌then◌else◌}
 use Rattle.std.specs.Str.{bytes_eq}
 use Rattle.std.specs.Fmt.{decimal}
 use Rattle.fam_base.specs.declared.error.FamError.{FamError}
@@ -11,6 +11,8 @@ use Rattle.fam_model.specs.declared.call.Call.TheVariants as call
 use Rattle.fam_model.specs.declared.event.Event.{Event}
 use Rattle.fam_model.specs.declared.event.What.{What}
 use Rattle.fam_model.specs.declared.event.What.TheVariants as what
+use Rattle.fam_model.specs.declared.line.Line.{Line}
+use Rattle.fam_model.specs.declared.line.Line.TheVariants as line
 use Rattle.fam_model.specs.declared.reply.OpResult.{OpResult}
 use Rattle.fam_model.specs.declared.reply.PieceAnswer.{PieceAnswer}
 use Rattle.fam_model.specs.declared.reply.PieceAnswer.TheVariants as answer
@@ -19,16 +21,13 @@ use Rattle.fam_model.specs.declared.reply.Reply.TheVariants as reply
 use Rattle.fam_model.specs.declared.report.ReplyLine.{ReplyLine}
 use Rattle.fam_model.specs.declared.rows.ItemRow.{ItemRow}
 use Rattle.fam_model.specs.declared.rows.RegionRow.{RegionRow}
-use Rattle.fam_model.specs.declared.script.Script.{Script}
-use Rattle.fam_model.specs.declared.script.Statement.{Statement, One}
 use Rattle.fam_model.specs.EventText.{event_text}
 use Rattle.fam_model.specs.Lists.{◌>>=◌, when}
 use Rattle.fam_model.specs.ReportText.{reply_line_text, region_text, item_text}
 use Rattle.fam_model.specs.Rows.{region_number, item_number}
 use Rattle.fam_model.specs.Values.{is_u32}
 use Rattle.fam_model.specs.Words.{words_text}
-use Rattle.fam_script.specs.Parsing.{parse_of}
-use Rattle.fam_script.specs.Reading.{Words, parts, one_of, two_of, three_of, four_of, five_of, six_of, seven_of, number_of, small_of, slot_of, signed_of, mode_of, hex_of, or_else}
+use Rattle.fam_script.specs.Reading.{Words, parts, one_of, two_of, three_of, four_of, five_of, six_of, seven_of, number_of, small_of, slot_of, signed_of, mode_of, hex_of, line_of, or_else}
 use Rattle.report_reader.specs.EventForm.{is_call_told, event_fits}
 use Rattle.report_reader.specs.Report.{reply_line_fits}
 
@@ -250,32 +249,14 @@ reply_line_of text =
 
 -- the text of a call
 
--- a script with this text as its one statement
-abbrev pub script_around : List ℕ → List ℕ
-script_around text = codes "service 1 1 64\npe 0 0\n" ++ (text ++ codes "\nend\nstop\n")
-
--- the element, if there is one alone
-abbrev pub only : {A : Type 0} → List A → Option A
-only (x ∷ []) = Some x
-only _ = None
-
-abbrev pub one_call : Statement → Option Call
-one_call (One asked) = Some asked
-one_call _ = None
-
-abbrev pub script_call : Script → Option Call
-script_call script = do
-  program ← only script.programs
-  statement ← only program.statements
-  one_call statement
-
-abbrev pub call_in : Result Script ℕ → Option Call
-call_in (Ok script) = script_call script
-call_in (Err n) = None
+-- the call that a line of a program is
+abbrev pub call_on : Line → Option Call
+call_on (line.One asked) = Some asked
+call_on _ = None
 
 -- the call whose text this is
 abbrev pub call_of : List ℕ → Option Call
-call_of text = call_in (parse_of (script_around text))
+call_of text = line_of text >>= call_on
 
 -- how many words a statement has that begins with this one
 abbrev pub is_one_word : List ℕ → Bool

@@ -8,56 +8,19 @@ ghost use Rattle.report_reader.specs.EventForm.{is_call_told};
 ghost use Rattle.report_reader.specs.Reading as words;
 
 use crate::cut::cut;
-use fam_base::{NoMemory, Sequence};
-use fam_model::{Call, Script, Statement};
-use fam_script::{ScriptFault, parse};
+use fam_base::NoMemory;
+use fam_model::{Call, Line};
+use fam_script::parse_line;
 use std::alloc::Global;
-
-/// The element of a list that has one alone.
-pub fn only<T: Drop>(items: Sequence<T>) -> Option<T>
-    ensures { result ≡ words.only items }
-{
-    let mut items = items.into_vec();
-    if items.len() == 1 { items.pop() } else { None }
-}
-
-/// A script with this text as its one statement.
-fn script_around(alloc: Global, text: &[u8]) -> Result<Vec<u8>, NoMemory>
-    ensures { IfOk result (λ script. script.items ≡ words.script_around text.now) }
-{
-    let mut script = Vec::from_slice(alloc, b"service 1 1 64\npe 0 0\n".as_slice())?;
-    script.extend_from_slice(text)?;
-    script.extend_from_slice(b"\nend\nstop\n".as_slice())?;
-    Ok(script)
-}
-
-fn one_call(statement: Statement) -> Option<Call>
-    ensures { result ≡ words.one_call statement }
-{
-    match statement {
-        Statement::One(call) => Some(call),
-        _ => None,
-    }
-}
-
-fn script_call(script: Script) -> Option<Call>
-    ensures { result ≡ words.script_call script }
-{
-    let program = only(script.programs)?;
-    let statement = only(program.statements)?;
-    one_call(statement)
-}
 
 /// The call whose text this is.
 fn call(alloc: Global, text: &[u8]) -> Result<Option<Call>, NoMemory>
     ensures call { IfOk result (λ c. c ≡ words.call_of text.now) }
     ensures told { IfOk result (λ c. IfSome c (λ asked. is_call_told asked ≡ true)) }
 {
-    let script = script_around(alloc, text)?;
-    match parse(alloc, script.as_slice()) {
-        Ok(script) => Ok(script_call(script)),
-        Err(ScriptFault::BadLine(_)) => Ok(None),
-        Err(ScriptFault::Memory) => Err(NoMemory),
+    match parse_line(alloc, text)? {
+        Some(Line::One(call)) => Ok(Some(call)),
+        _ => Ok(None),
     }
 }
 
