@@ -82,6 +82,13 @@ impl IndexedRows {
         self.directory.item_count()
     }
 
+    /// The number of the next region.
+    pub fn next_region(&self) -> u64
+        ensures { result ≡ self.now.next_region }
+    {
+        self.directory.next_region()
+    }
+
     /// The number of the next item.
     pub fn next_item(&self) -> u64
         ensures { result ≡ self.now.next_item }
