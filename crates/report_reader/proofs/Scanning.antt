@@ -1,6 +1,6 @@
 -- One step of a scan.
-use Rattle.std.proofs.Common.{◌≡◌, ℕ, suc, ◌+◌, ◌-◌, List, [], ◌∷◌, length, take, drop, Option, Some, None, Result, Ok, Err, sym, ap, subst, ◌∙◌, arith}
-use Rattle.std.specs.Prelude.{IfOk, IfSome}
+use Rattle.std.proofs.Common.{◌≡◌, ℕ, suc, ◌+◌, ◌-◌, List, [], ◌∷◌, length, take, drop, Option, Some, None, Result, Ok, Err, sym, ap, ◌∙◌, arith}
+use Rattle.std.specs.Prelude.{IfOk}
 use Rattle.std.specs.List.{flat_map}
 use Rattle.std.proofs.lemmas.List.{append-nil}
 use Rattle.fam_model.specs.declared.report.Report.{Report}
@@ -8,10 +8,9 @@ use Rattle.fam_script.specs.BadLine.{whole_lines}
 use Rattle.fam_script.specs.Parsing.{rest_of}
 use Rattle.fam_script.specs.Reading.{parts}
 use Rattle.fam_script.proofs.Cuts.{first_part}
-use Rattle.fam_script.proofs.Tests.{some_is}
 use Rattle.report_reader.specs.declared.reader.ReportFault.{ReportFault}
 use Rattle.report_reader.specs.declared.stage.Stage.{Stage}
-use Rattle.report_reader.specs.Machine.{HasLawfulRows, step, ended_with, and_then, scan, read_of}
+use Rattle.report_reader.specs.Machine.{step, ended_with, and_then, scan, read_of}
 use Rattle.report_reader.specs.Report.{IsReport}
 use Rattle.report_reader.proofs.Exact.{read_report}
 
@@ -70,7 +69,3 @@ scan_end n stage bytes last =
 pub read_whole : (bytes : List ℕ) (result : Result Report ReportFault) → IfOk result (λ r. read_of bytes ≡ Ok r) → IfOk result (λ r. IsReport bytes r)
 read_whole bytes (Ok report) e = read_report bytes report e
 read_whole bytes (Err fault) e = e
-
-pub lawful_next : (o : Option Stage) (next : Stage) → IfSome o HasLawfulRows → o ≡ Some next → HasLawfulRows next
-lawful_next None next lawful e = absurd cc
-lawful_next (Some s) next lawful e = subst HasLawfulRows (some_is s next e) lawful

@@ -1,6 +1,6 @@
 -- How the lines of a report are read in turn. A reader need not believe any of this: it is proved that reports, and no other bytes,
 -- are read so.
-use Rattle.std.specs.Prelude.{◌≡◌, ℕ, ◌+◌, ◌-◌, ◌==◌, nat_lt, List, [], ◌∷◌, ◌++◌, codes, Option, Some, None, Result, Ok, Err, MatchOption, ⊤, if◌then◌else◌}
+use Rattle.std.specs.Prelude.{◌≡◌, ℕ, ◌+◌, ◌-◌, ◌==◌, nat_lt, List, [], ◌∷◌, ◌++◌, codes, Option, Some, None, Result, Ok, Err, MatchOption, if◌then◌else◌}
 use Rattle.std.specs.Str.{bytes_eq}
 use Rattle.fam_model.specs.declared.change.Change.{Change}
 use Rattle.fam_model.specs.declared.change.Change.TheVariants as change
@@ -13,7 +13,7 @@ use Rattle.fam_model.specs.declared.rows.Rows.{Rows}
 use Rattle.fam_model.specs.Directory.{after}
 use Rattle.fam_model.specs.Lawful.{is_lawful_change}
 use Rattle.fam_model.specs.Lists.{◌>>=◌, when}
-use Rattle.fam_model.specs.Rows.{IsLawful, common_rows}
+use Rattle.fam_model.specs.Rows.{common_rows}
 use Rattle.fam_script.specs.BadLine.{whole_lines}
 use Rattle.fam_script.specs.Parsing.{rest_of}
 use Rattle.report_reader.specs.declared.stage.Opening.{Opening}
@@ -122,12 +122,6 @@ run before [] = Some before
 run before (text ∷ texts) = do
   next ← step before text
   run next texts
-
--- the rows of an opening are lawful
-abbrev pub HasLawfulRows : Stage → Type 0
-HasLawfulRows (stage.Regions o) = IsLawful o.rows
-HasLawfulRows (stage.Items o) = IsLawful o.rows
-HasLawfulRows _ = ⊤
 
 -- bytes
 

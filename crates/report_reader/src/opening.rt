@@ -1,25 +1,23 @@
 //! The rows of an opening, one more at a time.
 
-ghost use Rattle.std.specs.Prelude.{◌≡◌, IfOk, IfSome};
-ghost use Rattle.fam_model.specs.Rows.{IsLawful};
+ghost use Rattle.std.specs.Prelude.{◌≡◌, IfOk};
 ghost use Rattle.report_reader.specs.Machine as machine;
 
 use crate::stage::Opening;
 use fam_base::{NoMemory, Sequence};
-use fam_model::{Change, ItemRow, RegionRow, ReplyLine, Report, Rows};
-use fam_rows::{apply, common_rows, is_lawful_change};
+use fam_directory::IndexedRows;
+use fam_model::{Change, ItemRow, RegionRow, ReplyLine, Report};
+use fam_rows::common_rows;
 use std::alloc::Global;
 
 /// The rows after a change, if it is lawful.
-fn changed(alloc: Global, mut rows: Rows, change: Change) -> Result<Option<Rows>, NoMemory>
-    requires { IsLawful rows }
-    ensures rows { IfOk result (λ next. next ≡ machine.changed rows change) }
-    ensures lawful { IfOk result (λ next. IfSome next IsLawful) }
+fn changed(mut rows: IndexedRows, change: &Change) -> Result<Option<IndexedRows>, NoMemory>
+    ensures { IfOk result (λ next. next ≡ machine.changed rows change.now) }
 {
-    if !is_lawful_change(&rows, &change) {
+    if !rows.is_lawful_change(change) {
         return Ok(None);
     }
-    apply(alloc, &mut rows, change)?;
+    rows.apply(change)?;
     Ok(Some(rows))
 }
 
@@ -36,35 +34,27 @@ fn create(row: RegionRow) -> Change
     }
 }
 
-fn with_region(alloc: Global, rows: Rows, row: RegionRow) -> Result<Option<Rows>, NoMemory>
-    requires { IsLawful rows }
-    ensures rows { IfOk result (λ next. next ≡ machine.with_region rows row) }
-    ensures lawful { IfOk result (λ next. IfSome next IsLawful) }
+fn with_region(rows: IndexedRows, row: RegionRow) -> Result<Option<IndexedRows>, NoMemory>
+    ensures { IfOk result (λ next. next ≡ machine.with_region rows row) }
 {
     let skip = Change::Skip {
         next_region: row.number.0,
-        next_item: rows.next_item,
+        next_item: rows.next_item(),
     };
-    match changed(alloc, rows, skip)? {
-        Some(skipped) => changed(alloc, skipped, create(row)),
+    match changed(rows, &skip)? {
+        Some(skipped) => changed(skipped, &create(row)),
         None => Ok(None),
     }
 }
 
 /// The opening with a region more, if its rows are lawful then.
-pub fn add_region(
-    alloc: Global,
-    opening: Opening,
-    row: RegionRow,
-) -> Result<Option<Opening>, NoMemory>
-    requires { IsLawful opening.rows }
-    ensures opening { IfOk result (λ next. next ≡ machine.add_region opening row) }
-    ensures lawful { IfOk result (λ next. IfSome next (λ o. IsLawful o.rows)) }
+pub fn add_region(opening: Opening, row: RegionRow) -> Result<Option<Opening>, NoMemory>
+    ensures { IfOk result (λ next. next ≡ machine.add_region opening row) }
 {
     if row.number.0 >= opening.next_region {
         return Ok(None);
     }
-    match with_region(alloc, opening.rows, row)? {
+    match with_region(opening.rows, row)? {
         Some(rows) => Ok(Some(Opening { rows, ..opening })),
         None => Ok(None),
     }
@@ -85,31 +75,27 @@ fn allocate(row: ItemRow) -> Change
     }
 }
 
-fn with_item(alloc: Global, rows: Rows, row: ItemRow) -> Result<Option<Rows>, NoMemory>
-    requires { IsLawful rows }
-    ensures rows { IfOk result (λ next. next ≡ machine.with_item rows row) }
-    ensures lawful { IfOk result (λ next. IfSome next IsLawful) }
+fn with_item(rows: IndexedRows, row: ItemRow) -> Result<Option<IndexedRows>, NoMemory>
+    ensures { IfOk result (λ next. next ≡ machine.with_item rows row) }
 {
     let skip = Change::Skip {
-        next_region: rows.next_region,
+        next_region: rows.next_region(),
         next_item: row.number.0,
     };
-    match changed(alloc, rows, skip)? {
-        Some(skipped) => changed(alloc, skipped, allocate(row)),
+    match changed(rows, &skip)? {
+        Some(skipped) => changed(skipped, &allocate(row)),
         None => Ok(None),
     }
 }
 
 /// The opening with an item more, if its rows are lawful then.
-pub fn add_item(alloc: Global, opening: Opening, row: ItemRow) -> Result<Option<Opening>, NoMemory>
-    requires { IsLawful opening.rows }
-    ensures opening { IfOk result (λ next. next ≡ machine.add_item opening row) }
-    ensures lawful { IfOk result (λ next. IfSome next (λ o. IsLawful o.rows)) }
+pub fn add_item(opening: Opening, row: ItemRow) -> Result<Option<Opening>, NoMemory>
+    ensures { IfOk result (λ next. next ≡ machine.add_item opening row) }
 {
     if row.number.0 >= opening.next_item {
         return Ok(None);
     }
-    match with_item(alloc, opening.rows, row)? {
+    match with_item(opening.rows, row)? {
         Some(rows) => Ok(Some(Opening { rows, ..opening })),
         None => Ok(None),
     }
@@ -121,16 +107,15 @@ pub fn opened(
     replies: Sequence<ReplyLine>,
     next: (u64, u64),
 ) -> Result<Option<Opening>, NoMemory>
-    ensures opening { IfOk result (λ o. o ≡ machine.opened replies next) }
-    ensures lawful { IfOk result (λ o. IfSome o (λ opening. IsLawful opening.rows)) }
+    ensures { IfOk result (λ o. o ≡ machine.opened replies next) }
 {
-    let rows = common_rows(alloc)?;
+    let rows = IndexedRows::of_rows(alloc, &common_rows(alloc)?)?;
     let (next_region, next_item) = next;
     let skip = Change::Skip {
         next_region,
         next_item,
     };
-    if is_lawful_change(&rows, &skip) {
+    if rows.is_lawful_change(&skip) {
         Ok(Some(Opening {
             replies,
             rows,
@@ -143,15 +128,15 @@ pub fn opened(
 }
 
 /// The report whose events begin.
-pub fn begun(alloc: Global, opening: Opening) -> Report
-    ensures { result ≡ machine.begun opening }
+pub fn begun(alloc: Global, opening: Opening) -> Result<Report, NoMemory>
+    ensures { IfOk result (λ report. report ≡ machine.begun opening) }
 {
-    let mut rows = opening.rows;
+    let mut rows = opening.rows.rows()?;
     rows.next_region = opening.next_region;
     rows.next_item = opening.next_item;
-    Report {
+    Ok(Report {
         replies: opening.replies,
         rows,
         history: Sequence::new(alloc),
-    }
+    })
 }

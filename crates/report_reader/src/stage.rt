@@ -1,9 +1,8 @@
 //! The lines so far.
 
-ghost use Rattle.std.specs.Prelude.{◌≡◌, IfOk, IfSome};
-ghost use Rattle.fam_model.specs.Rows.{IsLawful};
+ghost use Rattle.std.specs.Prelude.{◌≡◌, IfOk};
 ghost use Rattle.report_reader.specs.Machine as machine;
-ghost use Rattle.report_reader.specs.Machine.{HasLawfulRows, GivesReport};
+ghost use Rattle.report_reader.specs.Machine.{GivesReport};
 
 use crate::event::event;
 use crate::lines::{events_line, opening_line};
@@ -11,7 +10,8 @@ use crate::opening::{add_item, add_region, begun, opened};
 use crate::replies::reply_line;
 use crate::rows::{item_line, region_line};
 use fam_base::{NoMemory, Sequence};
-use fam_model::{Event, ItemRow, RegionRow, ReplyLine, Report, Rows};
+use fam_directory::IndexedRows;
+use fam_model::{Event, ItemRow, RegionRow, ReplyLine, Report};
 use std::alloc::Global;
 
 /// Reply lines and the rows behind them so far. The next numbers of these rows are those behind the last ones; the numbers of
@@ -19,7 +19,7 @@ use std::alloc::Global;
 #[derive(Drop)]
 pub struct Opening {
     pub replies: Sequence<ReplyLine>,
-    pub rows: Rows,
+    pub rows: IndexedRows,
     pub next_region: u64,
     pub next_item: u64,
 }
@@ -42,8 +42,7 @@ pub enum Stage {
 }
 
 fn first_step(alloc: Global, text: &[u8]) -> Option<Stage>
-    ensures step { result ≡ machine.first_step text.now }
-    ensures lawful { IfSome result HasLawfulRows }
+    ensures { result ≡ machine.first_step text.now }
 {
     if text == b"replies".as_slice() {
         Some(Stage::Replies(Sequence::new(alloc)))
@@ -57,8 +56,7 @@ fn opening_step(
     replies: Sequence<ReplyLine>,
     text: &[u8],
 ) -> Result<Option<Stage>, NoMemory>
-    ensures step { IfOk result (λ next. next ≡ machine.opening_step replies text.now) }
-    ensures lawful { IfOk result (λ next. IfSome next HasLawfulRows) }
+    ensures { IfOk result (λ next. next ≡ machine.opening_step replies text.now) }
 {
     let Some(next) = opening_line(alloc, text)? else {
         return Ok(None);
@@ -75,8 +73,7 @@ fn told_step(
     mut replies: Sequence<ReplyLine>,
     text: &[u8],
 ) -> Result<Option<Stage>, NoMemory>
-    ensures step { IfOk result (λ next. next ≡ machine.told_step told replies text.now) }
-    ensures lawful { IfOk result (λ next. IfSome next HasLawfulRows) }
+    ensures { IfOk result (λ next. next ≡ machine.told_step told replies text.now) }
 {
     match told {
         Some(told) => {
@@ -88,11 +85,10 @@ fn told_step(
 }
 
 fn events_step(alloc: Global, opening: Opening, text: &[u8]) -> Result<Option<Stage>, NoMemory>
-    ensures step { IfOk result (λ next. next ≡ machine.events_step opening text.now) }
-    ensures lawful { IfOk result (λ next. IfSome next HasLawfulRows) }
+    ensures { IfOk result (λ next. next ≡ machine.events_step opening text.now) }
 {
     match events_line(alloc, text)? {
-        Some(count) => Ok(Some(Stage::Events(begun(alloc, opening), count))),
+        Some(count) => Ok(Some(Stage::Events(begun(alloc, opening)?, count))),
         None => Ok(None),
     }
 }
@@ -103,14 +99,12 @@ fn item_step(
     opening: Opening,
     text: &[u8],
 ) -> Result<Option<Stage>, NoMemory>
-    requires { IsLawful opening.rows }
-    ensures step { IfOk result (λ next. next ≡ machine.item_step row opening text.now) }
-    ensures lawful { IfOk result (λ next. IfSome next HasLawfulRows) }
+    ensures { IfOk result (λ next. next ≡ machine.item_step row opening text.now) }
 {
     let Some(row) = row else {
         return events_step(alloc, opening, text);
     };
-    match add_item(alloc, opening, row)? {
+    match add_item(opening, row)? {
         Some(next) => Ok(Some(Stage::Items(next))),
         None => Ok(None),
     }
@@ -122,15 +116,13 @@ fn region_step(
     opening: Opening,
     text: &[u8],
 ) -> Result<Option<Stage>, NoMemory>
-    requires { IsLawful opening.rows }
-    ensures step { IfOk result (λ next. next ≡ machine.region_step row opening text.now) }
-    ensures lawful { IfOk result (λ next. IfSome next HasLawfulRows) }
+    ensures { IfOk result (λ next. next ≡ machine.region_step row opening text.now) }
 {
     let Some(row) = row else {
         let item = item_line(alloc, text)?;
         return item_step(alloc, item, opening, text);
     };
-    match add_region(alloc, opening, row)? {
+    match add_region(opening, row)? {
         Some(next) => Ok(Some(Stage::Regions(next))),
         None => Ok(None),
     }
@@ -144,8 +136,7 @@ fn with_event(mut report: Report, event: Event) -> Result<Report, NoMemory>
 }
 
 fn last_step(report: Report, text: &[u8]) -> Option<Stage>
-    ensures step { result ≡ machine.event_step report 0 text.now }
-    ensures lawful { IfSome result HasLawfulRows }
+    ensures { result ≡ machine.event_step report 0 text.now }
 {
     if text == b"done".as_slice() {
         Some(Stage::Whole(report))
@@ -160,8 +151,7 @@ fn event_step(
     left: u64,
     text: &[u8],
 ) -> Result<Option<Stage>, NoMemory>
-    ensures step { IfOk result (λ next. next ≡ machine.event_step report left text.now) }
-    ensures lawful { IfOk result (λ next. IfSome next HasLawfulRows) }
+    ensures { IfOk result (λ next. next ≡ machine.event_step report left text.now) }
 {
     if left == 0 {
         return Ok(last_step(report, text));
@@ -175,9 +165,7 @@ fn event_step(
 
 /// The lines with one more, if a report begins with them.
 pub fn step(alloc: Global, stage: Stage, text: &[u8]) -> Result<Option<Stage>, NoMemory>
-    requires { HasLawfulRows stage }
-    ensures step { IfOk result (λ next. next ≡ machine.step stage text.now) }
-    ensures lawful { IfOk result (λ next. IfSome next HasLawfulRows) }
+    ensures { IfOk result (λ next. next ≡ machine.step stage text.now) }
 {
     match stage {
         Stage::Nothing => Ok(first_step(alloc, text)),

@@ -1,6 +1,6 @@
 use Rattle.std.proofs.Common.{ℕ, ◌≡◌, ◌+◌, Err, Result, sym, ap, ◌∙◌, arith}
 use Rattle.fam_model.specs.declared.report.Report.{Report}
-use Rattle.report_reader.proofs.Scanning.{scan_step, scan_bad, lawful_next}
+use Rattle.report_reader.proofs.Scanning.{scan_step, scan_bad}
 use Rattle.report_reader.proofs.reader.read_lines.Goals as goal
 
 pub returns-in-None-clause-bad_line : goal.returns-in-None-clause-bad_line
@@ -9,7 +9,7 @@ returns-in-None-clause-bad_line c = λ n e.
     let bad : ℕ → Result Report ℕ = λ m. Err m in
     c.loop-text.invariant.same
     ∙ scan_bad c.loop-text.rest.now c.in-Some.text.now c.in-Some.others.now c.in-Some.ensures.parts c.loop-text.lines c.loop-text.stage
-    (sym c.in_ok-next.ensures.step ∙ c.in-None.is)
+    (sym c.in_ok-next.ensures ∙ c.in-None.is)
     ∙ ap bad n-is
 
 pub loop-text-preserved : goal.loop-text-preserved
@@ -18,7 +18,6 @@ loop-text-preserved c =
       same =
           c.loop-text.invariant.same
           ∙ scan_step c.loop-text.rest.now c.in-Some.text.now c.in-Some.others.now c.in-Some.ensures.parts c.loop-text.lines c.loop-text.stage c.in-Some-2.next
-          (sym c.in_ok-next.ensures.step ∙ c.in-Some-2.is);
-      lawful = lawful_next c.in_ok-next.field-0 c.in-Some-2.next c.in_ok-next.ensures.lawful c.in-Some-2.is;
+          (sym c.in_ok-next.ensures ∙ c.in-Some-2.is);
       few = omega (arith, c.in-Some.ensures.shorter);
     }
