@@ -1,5 +1,5 @@
 -- The line that a text is, as it is read.
-use Rattle.std.proofs.Common.{◌≡◌, ℕ, List, Option, Some, None, refl, sym, ap, ◌∙◌, subst}
+use Rattle.std.proofs.Common.{◌≡◌, ℕ, List, Option, Some, None, refl, sym, ap, ◌∙◌}
 use Rattle.fam_model.specs.declared.line.Line.{Line}
 use Rattle.fam_script.specs.Lines.{IsLineOf}
 use Rattle.fam_script.specs.Reading.{line_of}

@@ -2,6 +2,7 @@
 
 ghost use Rattle.std.specs.Prelude.{◌≡◌, ℕ, List, ◌++◌, ◌∷◌, ◌≤◌, [], drop, take, true, None, Some, IfOk, IfSome, MatchOption};
 ghost use Rattle.std.specs.List.{flat_map};
+ghost use Rattle.fam_model.specs.Grammar.{is_line};
 ghost use Rattle.fam_model.specs.Words.{words_text};
 ghost use Rattle.fam_script.specs.Reading.{parts};
 ghost use Rattle.report_reader.specs.EventForm.{is_call_told};
@@ -13,14 +14,26 @@ use fam_model::{Call, Line};
 use fam_script::parse_line;
 use std::alloc::Global;
 
+/// The call that a line of a program is.
+fn one_call(line: Line) -> Option<Call>
+    requires { is_line line ≡ true }
+    ensures call { result ≡ words.call_on line }
+    ensures told { IfSome result (λ asked. is_call_told asked ≡ true) }
+{
+    match line {
+        Line::One(call) => Some(call),
+        _ => None,
+    }
+}
+
 /// The call whose text this is.
 fn call(alloc: Global, text: &[u8]) -> Result<Option<Call>, NoMemory>
     ensures call { IfOk result (λ c. c ≡ words.call_of text.now) }
     ensures told { IfOk result (λ c. IfSome c (λ asked. is_call_told asked ≡ true)) }
 {
     match parse_line(alloc, text)? {
-        Some(Line::One(call)) => Ok(Some(call)),
-        _ => Ok(None),
+        Some(line) => Ok(one_call(line)),
+        None => Ok(None),
     }
 }
 
