@@ -3,6 +3,8 @@ pub mod Leading
 pub mod Hearing
 pub mod Lining
 pub mod Going
+pub mod Renewing
+pub mod Making
 pub mod Openings
 pub mod Choosing
 pub mod Listing

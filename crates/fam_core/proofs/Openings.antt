@@ -29,7 +29,7 @@ use Rattle.fam_schedule.proofs.Whole.{tells_new}
 use Rattle.fam_core.specs.declared.playing.Player.{Player}
 use Rattle.fam_core.specs.declared.turn.Turn.{Turn}
 use Rattle.fam_core.specs.Turns.{StartsAs}
-use Rattle.fam_core.specs.Playing.{IsOpened, StartAs, StartSoFar}
+use Rattle.fam_core.specs.Playing.{HasFlags, IsOpened, StartAs, StartSoFar}
 use Rattle.fam_core.proofs.Going.{tells_with}
 
 -- as many programs as the script has
@@ -40,8 +40,8 @@ opened_count rows script =
     ∙ length-map script.programs (λ program. program.who)
 
 pub stands_new : (rows : Rows) (script : Script) (player : Player) → length script.programs ≤ 64 → player.service.state ≡ opening rows script → player.service.history ≡ [] → StartAs script.programs player.turns →
-    AreReady (opening rows script) player.ready → IsOpened rows script player
-stands_new rows script player few same nothing start ready =
+    AreReady (opening rows script) player.ready → HasFlags player → IsOpened rows script player
+stands_new rows script player few same nothing start ready flags =
     let count = start.count in
     record {
       machine = same;
@@ -51,6 +51,7 @@ stands_new rows script player few same nothing start ready =
         count = count;
         turns = λ pe turn text at there. start.each pe turn at text there;
         ready = subst (λ state. AreReady state player.ready) (sym same) ready;
+        flags = flags;
         tells = λ words. subst (λ state. TellsAll script (record { before = []; now = state; words = words })) (sym same)
             (tells_with script [] (opening rows script) (new_run rows script 0).words words (tells_new rows script 0));
         tidy = subst IsTidy (sym same) (opening_tidy rows script);
@@ -125,11 +126,11 @@ lawful_groups script whos lawful same =
 -- the machine as it is opened
 pub opens : (rows : Rows) (script : Script) (player : Player) (whos : List Who) (local stripes : ℕ) → IsLawfulScript script → whos ≡ map (λ program. program.who) script.programs →
     local ≡ length whos → player.service.state ≡ opened rows script.service whos local → player.service.history ≡ [] → StartAs script.programs player.turns → stripes ≡ stripe_count script.service →
-    player.ready ≡ replicate stripes [] → IsOpened rows script player
-opens rows script player whos local stripes lawful users count machine nothing start stripes_are ready =
+    player.ready ≡ replicate stripes [] → HasFlags player → IsOpened rows script player
+opens rows script player whos local stripes lawful users count machine nothing start stripes_are ready flags =
     let longer : length whos ≡ length script.programs = ap length users ∙ length-map script.programs (λ program. program.who) in
     let at_opening : player.service.state ≡ opening rows script =
     machine ∙ ap (λ ws. opened rows script.service ws local) users
     ∙ ap (opened rows script.service (map (λ program. program.who) script.programs)) (count ∙ longer) in
     stands_new rows script player lawful.but_count.programs at_opening nothing start
-    (subst (AreReady (opening rows script)) (sym (ready ∙ ap (λ n. replicate n []) stripes_are)) (opened_empty rows script))
+    (subst (AreReady (opening rows script)) (sym (ready ∙ ap (λ n. replicate n []) stripes_are)) (opened_empty rows script)) flags

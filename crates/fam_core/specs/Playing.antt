@@ -1,17 +1,19 @@
 -- Where a run stands between two events, and how it goes on.
-use Rattle.std.specs.Prelude.{Result, Ok, Err, ◌⊎◌, ◌≡◌, ℕ, ◌≤◌, Bool, true, false, List, [], ◌∷◌, ◌++◌, filter, length, map, slice_get, Option, Some, None, is_some}
+use Rattle.std.specs.Prelude.{Result, Ok, Err, ◌⊎◌, ◌≡◌, ◌≢◌, ℕ, ◌<◌, ◌≤◌, Bool, true, false, List, [], ◌∷◌, ◌++◌, filter, length, map, slice_get, Option, Some, None, is_some}
 use Rattle.rand_pcg.specs.Lcg.{Lcg}
 use Rattle.fam_model.specs.declared.call.Call.{Call}
 use Rattle.fam_model.specs.declared.event.Event.{Event}
 use Rattle.fam_model.specs.declared.rows.Rows.{Rows}
 use Rattle.fam_model.specs.declared.script.Program.{Program as Text}
 use Rattle.fam_model.specs.declared.script.Script.{Script}
+use Rattle.fam_model.specs.declared.state.ProgramState.{ProgramState}
 use Rattle.fam_model.specs.declared.state.State.{State}
 use Rattle.fam_base.specs.declared.error.NoMemory.{NoMemory}
 use Rattle.fam_model.specs.Headline.{opening}
 use Rattle.fam_model.specs.History.{state_after}
 use Rattle.fam_model.specs.Limits.{service_limits}
 use Rattle.fam_model.specs.Lists.{◌>>=◌, numbers_below}
+use Rattle.fam_model.specs.Programs.{program_of}
 use Rattle.fam_model.specs.ReportText.{reply_lines}
 use Rattle.fam_model.specs.Step.{step}
 use Rattle.fam_ready.specs.Ready.{AreReady, IsTidy}
@@ -21,8 +23,9 @@ use Rattle.fam_steps.specs.declared.step.CoreFault.{CoreFault}
 use Rattle.fam_steps.specs.declared.step.Step.{Step as Asked}
 use Rattle.fam_schedule.specs.Schedule.{Run, Actor, Comes, Program, Stripe, PieceName, LeadsTo, IsScheduled, drawn, new_run, next_step, replies_to, taken, with_words}
 use Rattle.fam_schedule.proofs.Runs.{TellsAll}
-use Rattle.fam_turns.specs.Turns.{event_with}
+use Rattle.fam_turns.specs.Turns.{TellsEvent, event_with}
 use Rattle.ready_lists.specs.Lists.{busy_stripes, names_at}
+use Rattle.fam_core.specs.declared.able.Able.{Able}
 use Rattle.fam_core.specs.declared.actors.Actor.{Actor as Listed}
 use Rattle.fam_core.specs.declared.actors.Actor.TheVariants as listed
 use Rattle.fam_core.specs.declared.chosen.Chosen.{Chosen}
@@ -52,6 +55,38 @@ abbrev pub acting : Player → List Actor
 acting player =
     map Program (filter (may_go player) (numbers_below (length player.turns))) ++ map Stripe (busy_stripes player.ready)
 
+-- the flags of the programs
+
+-- the flag tells whether the next event of a program may come, if it is there, in every state with that program and this round
+abbrev pub TellsNext : Option ProgramState → ℕ → Option Call → Bool → Type 0
+TellsNext None round asked flag = flag ≡ false
+TellsNext (Some p) round asked flag = TellsEvent round p asked flag
+
+-- the flag is right for the program of that number
+abbrev pub IsFlag : State → List Turn → ℕ → Bool → Type 0
+IsFlag state turns pe flag = TellsNext (program_of state pe) state.round (asked_by turns pe) flag
+
+-- the flag of one program was set anew, if it has one, and the others are as they were
+pub record IsRenewed (state : State) (turns : List Turn) (pe : ℕ) (olds news : List Bool) : Type 0 where
+  pub count : length news ≡ length olds
+  pub here : (flag : Bool) → slice_get news pe ≡ Some flag → IsFlag state turns pe flag
+  pub others : (other : ℕ) (flag : Bool) → other ≢ pe → slice_get news other ≡ Some flag → slice_get olds other ≡ Some flag
+
+-- the flags of the first n programs were set anew
+pub record AreRenewed (state : State) (turns : List Turn) (n : ℕ) (olds news : List Bool) : Type 0 where
+  pub count : length news ≡ length olds
+  pub each : (pe : ℕ) (flag : Bool) → pe < n → slice_get news pe ≡ Some flag → IsFlag state turns pe flag
+
+-- each program has a flag, and it is right at this round
+pub record AreAble (state : State) (turns : List Turn) (able : Able) : Type 0 where
+  pub current : able.round ≡ state.round
+  pub count : length able.flags ≡ length turns
+  pub each : (pe : ℕ) (flag : Bool) → slice_get able.flags pe ≡ Some flag → IsFlag state turns pe flag
+
+-- the programs of a player have their flags
+abbrev pub HasFlags : Player → Type 0
+HasFlags player = AreAble player.service.state player.turns player.able
+
 -- where a run stands
 
 -- the run of this history, with these words left
@@ -66,6 +101,7 @@ pub record Stands (script : Script) (history : List Event) (player : Player) : T
   pub turns : (pe : ℕ) (turn : Turn) (text : Text) → slice_get player.turns pe ≡ Some turn → slice_get script.programs pe ≡ Some text →
       IsTurn text pe (replies_to history pe) turn
   pub ready : AreReady player.service.state player.ready
+  pub flags : HasFlags player
   pub tells : (words : Lcg) → TellsAll script (run_of player history words)
   pub tidy : IsTidy player.service.state
   pub made : player.service.history ≡ history
@@ -134,11 +170,18 @@ abbrev pub Follows : List (List PieceName) → Event → State → List (List Pi
 Follows ready event next ready_next =
     (old : State) → AreReady old ready → IsTidy old → step service_limits old event ≡ Some next → AreReady next ready_next
 
+-- the flags are right after a step, if they were so before it
+abbrev pub KeepsAble : Event → State → List Turn → Able → Able → Type 0
+KeepsAble event next turns_next able able_next =
+    (old : State) (turns : List Turn) → AreAble old turns able → AreHeard event turns turns_next → step service_limits old event ≡ Some next →
+    AreAble next turns_next able_next
+
 -- the player after an event
 pub record Makes (old : Player) (event : Event) (new : Player) : Type 0 where
   pub makes : steps.Makes old.service event new.service
   pub follows : Follows old.ready event new.service.state new.ready
   pub hears : AreHeard event old.turns new.turns
+  pub keeps : KeepsAble event new.service.state new.turns old.able new.able
 
 -- the player after what came where this event is due
 pub record MakesDue (old : Player) (due event : Event) (new : Player) : Type 0 where
@@ -150,11 +193,12 @@ abbrev pub Acts : Player → Chosen → Course → Result Unit CoreFault → Typ
 Acts player (chosen.Turn pe) new result = steps.TakesTurn player.service pe (asked_by player.turns pe) new result
 Acts player (chosen.Move asked) new result = steps.Advances player.service asked new result
 
--- the last event is known to the lists and to its program, if there is one
+-- the last event is known to the lists, to its program and to the flags, if there is one
 abbrev pub LetsKnow : Player → Player → Bool → Type 0
 LetsKnow old new true =
     (before : List Event) (event : Event) → old.service.history ≡ before ++ event ∷ [] →
     Follows old.ready event old.service.state new.ready × AreHeard event old.turns new.turns
+    × KeepsAble event old.service.state new.turns old.able new.able
 LetsKnow old new false = (before : List Event) (event : Event) → ¬ (old.service.history ≡ before ++ event ∷ [])
 
 -- no event comes of what was chosen

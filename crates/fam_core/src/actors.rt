@@ -3,13 +3,11 @@
 ghost use Rattle.std.specs.Prelude.{◌≡◌, ◌≤◌, ◌++◌, filter, is_some, length, map, OnOk};
 ghost use Rattle.fam_model.specs.Lists.{numbers_below};
 ghost use Rattle.fam_schedule.specs.Schedule as schedule;
-ghost use Rattle.fam_turns.specs.Turns.{event_with};
 ghost use Rattle.ready_lists.specs.Lists.{busy_stripes};
-ghost use Rattle.fam_core.specs.Playing.{actor_of, acting, asked_by, may_go};
+ghost use Rattle.fam_core.specs.Playing.{actor_of, acting, may_go, HasFlags};
 
 use crate::playing::Player;
 use fam_base::NoMemory;
-use fam_turns::may_act;
 use ready_lists::ReadyLists;
 
 /// A program, or a stripe.
@@ -19,27 +17,16 @@ pub enum Actor {
     Stripe(usize),
 }
 
-/// Whether the next event of a program may come.
-fn may_go(player: &Player, pe: u32) -> bool
-    ensures { result ≡ may_go player.now pe }
-{
-    let Some(program) = player.service.machine().program(pe) else {
-        return false;
-    };
-    match player.turns.get(pe as usize) {
-        Some(turn) => may_act(program, player.service.machine().round(), &turn.asked),
-        None => may_act(program, player.service.machine().round(), &None),
-    }
-}
-
 /// Lists the programs that may act, in order, behind what is listed.
 fn list_programs(player: &Player, actors: &mut Vec<Actor>) -> Result<(), NoMemory>
-    requires { length player.now.turns ≤ 64 }
+    requires few { length player.now.turns ≤ 64 }
+    requires flags { HasFlags player.now }
     ensures { OnOk result (map actor_of actors.new.items ≡
         map actor_of actors.old.items ++ map schedule.Program (filter (may_go player.now) (numbers_below (length player.now.turns)))) }
 {
-    for pe in 0..player.turns.len() {
-        if may_go(player, pe as u32) {
+    let flags = &player.able.flags;
+    for pe in 0..flags.len() {
+        if *flags.at(pe) {
             actors.push(Actor::Program(pe as u32))?;
         }
     }
@@ -60,7 +47,8 @@ fn list_stripes(ready: &ReadyLists, actors: &mut Vec<Actor>) -> Result<(), NoMem
 
 /// Lists who may act in place of what is listed: the programs in order, and then the stripes in order.
 pub fn list_actors(player: &Player, actors: &mut Vec<Actor>) -> Result<(), NoMemory>
-    requires { length player.now.turns ≤ 64 }
+    requires few { length player.now.turns ≤ 64 }
+    requires flags { HasFlags player.now }
     ensures { OnOk result (map actor_of actors.new.items ≡ acting player.now) }
 {
     actors.clear();

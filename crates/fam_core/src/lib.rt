@@ -1,6 +1,7 @@
 //! A script played on one thread: the machine, the programs on their way, and the order that a seed draws.
 #![tactic(auto)]
 
+mod able;
 mod actors;
 mod chosen;
 mod opening;

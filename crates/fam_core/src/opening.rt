@@ -6,6 +6,7 @@ ghost use Rattle.fam_model.specs.Headline.{opening};
 ghost use Rattle.fam_model.specs.Rows.{IsLawful};
 ghost use Rattle.fam_core.specs.Playing.{IsOpened, StartAs};
 
+use crate::able::Able;
 use crate::playing::Player;
 use crate::turn::Turn;
 use fam_base::{NoMemory, Sequence, Who};
@@ -50,10 +51,12 @@ impl Player {
         let turns = new_turns(alloc, script)?;
         let stripes = usize::from(form.servers) * usize::from(form.stripes);
         let ready = ReadyLists::new(alloc, stripes)?;
+        let able = Able::new(alloc, service.machine(), &turns)?;
         Ok(Player {
             service,
             turns,
             ready,
+            able,
         })
     }
 }

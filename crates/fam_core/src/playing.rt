@@ -1,12 +1,13 @@
 //! A run between two events.
 
-ghost use Rattle.std.specs.Prelude.{◌≡◌, IfOk, OnOk};
+ghost use Rattle.std.specs.Prelude.{◌≡◌, ◌≤◌, length, IfOk, OnOk};
 ghost use Rattle.fam_keeper.specs.Keeping.{Keeps};
 ghost use Rattle.fam_steps.specs.Crash.{KeepsOn};
 ghost use Rattle.fam_steps.specs.Steps as steps;
 ghost use Rattle.fam_core.specs.Playing.{Acts, asked_by, Follows, IsMade, LetsKnow};
 ghost use Rattle.fam_core.specs.Turns.{AreHeard};
 
+use crate::able::Able;
 use crate::chosen::Chosen;
 use crate::turn::{Turn, told};
 use fam_base::{NoMemory, PeId, Sequence};
@@ -18,12 +19,14 @@ use fam_ready::follow;
 use fam_steps::{Core, CoreFault};
 use ready_lists::ReadyLists;
 
-/// The service, the programs on their way, and for each stripe the pieces that may come.
+/// The service, the programs on their way, for each stripe the pieces that may come, and for each program whether its next
+/// event may come.
 #[derive(Drop)]
 pub struct Player {
     pub service: Core,
     pub turns: Sequence<Turn>,
     pub ready: ReadyLists,
+    pub able: Able,
 }
 
 /// The lists after an event.
@@ -60,6 +63,7 @@ impl Player {
         ensures keeps { KeepsOn self.old.service keeper.old self.new.service keeper.new }
         ensures turns { self.new.turns ≡ self.old.turns }
         ensures ready { self.new.ready ≡ self.old.ready }
+        ensures able { self.new.able ≡ self.old.able }
     {
         match chosen {
             Chosen::Turn(pe) => self.take_turn(keeper, *pe),
@@ -75,6 +79,7 @@ impl Player {
         ensures keeps { KeepsOn self.old.service keeper.old self.new.service keeper.new }
         ensures turns { self.new.turns ≡ self.old.turns }
         ensures ready { self.new.ready ≡ self.old.ready }
+        ensures able { self.new.able ≡ self.old.able }
     {
         match self.turns.get(pe as usize) {
             Some(turn) => self.service.go_on(keeper, PeId(pe), &turn.asked),
@@ -90,6 +95,7 @@ impl Player {
         chosen: &Chosen,
     ) -> Result<bool, NoMemory>
         requires kept { Keeps keeper.old self.old.service.state.rows }
+        requires few { length self.old.able.flags ≤ 64 }
         ensures made { IsMade self.old chosen.now self.new result }
         ensures kept { Keeps keeper.new self.new.service.state.rows }
         ensures keeps { KeepsOn self.old.service keeper.old self.new.service keeper.new }
@@ -101,8 +107,9 @@ impl Player {
         }
     }
 
-    /// Lets the last event be known to the lists and to its program. False where there is none.
+    /// Lets the last event be known to the lists, to its program and to the flags. False where there is none.
     fn let_know(&mut self) -> Result<bool, NoMemory>
+        requires { length self.old.able.flags ≤ 64 }
         ensures known { IfOk result (LetsKnow self.old self.new) }
         ensures service { self.new.service ≡ self.old.service }
     {
@@ -111,6 +118,7 @@ impl Player {
         };
         keep_ready(&mut self.ready, self.service.machine(), event)?;
         hear(&mut self.turns, event)?;
+        self.able.follow(self.service.machine(), &self.turns, event);
         Ok(true)
     }
 }
