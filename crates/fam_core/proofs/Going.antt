@@ -156,7 +156,7 @@ stands_next script history old new words later due event s chosen instead makes 
           heard_turn text pe (told_to pe event) (replies_to history pe) (replies_to (history ++ event ∷ []) pe) was.0 turn (s.turns pe was.0 text was.1 there)
           (makes.hears.each pe was.0 turn was.1 at) (hears script run text pe event there (s.tells words) comes);
       ready = makes.follows old.service.state s.ready s.tidy makes.makes.steps;
-      flags = makes.keeps old.service.state old.turns s.flags makes.hears makes.makes.steps;
+      flags = makes.keeps.right old.service.state old.turns s.flags makes.hears makes.makes.steps;
       tells = λ others. tells_with script (history ++ event ∷ []) new.service.state later others (tells_instead script run event new.service.state later (s.tells words) comes makes.makes.steps);
       tidy = step_tidy service_limits old.service.state new.service.state event makes.makes.steps s.tidy;
       made = makes.makes.kept ∙ ap (λ history. history ++ event ∷ []) s.made;

@@ -20,12 +20,9 @@ use Rattle.fam_turns.specs.Turns.{next_of}
 use Rattle.fam_core.specs.declared.able.Able.{Able}
 use Rattle.fam_core.specs.declared.playing.Player.{Player}
 use Rattle.fam_core.specs.declared.turn.Turn.{Turn}
-use Rattle.fam_core.specs.Playing.{AreRenewed, HasFlags, IsFlag, IsRenewed, KeepsAble, TellsNext, asked_by, may_go}
+use Rattle.fam_core.specs.Playing.{AreAble, AreRenewed, HasFlags, IsFlag, IsRenewed, KeepsAble, TellsNext, asked_by, may_go}
 use Rattle.fam_core.specs.Turns.{AreHeard, Heard, told_to}
 use Rattle.fam_core.proofs.Going.{element_at}
-
-same_some : {A : Type 0} (x y : A) → Some x ≡ Some y → x ≡ y
-same_some x y e = cc
 
 -- another place of a list in which one was changed
 get_apart : {A : Type 0} (xs : List A) (k j : ℕ) (y : A) → j ≢ k → slice_get (slice_set xs k y) j ≡ slice_get xs j
@@ -63,14 +60,16 @@ may_go_is player pe flag has at = by_program (program_of player.service.state pe
 -- where the round is another one
 pub keeps_all : (event : Event) (next : State) (later : List Turn) (able able_next : Able) → able_next.round ≡ next.round → AreRenewed next later (length able.flags) able.flags able_next.flags →
     KeepsAble event next later able able_next
-keeps_all event next later able able_next round renewed old turns are heard steps =
+keeps_all event next later able able_next round renewed =
     record {
-      current = round;
-      count = renewed.count ∙ are.count ∙ sym heard.count;
-      each = λ pe flag at.
-          let low : pe < length able_next.flags = slice_get_within able_next.flags pe flag at in
-          let count = renewed.count in
-          renewed.each pe flag (omega (arith, low, count)) at;
+      right = λ old turns are heard steps. record {
+        current = round;
+        count = renewed.count ∙ are.count ∙ sym heard.count;
+        each = λ pe flag at.
+            let low : pe < length able_next.flags = slice_get_within able_next.flags pe flag at in
+            let count = renewed.count in
+            renewed.each pe flag (omega (arith, low, count)) at;
+      };
     }
 
 -- the call of a program that heard nothing
@@ -93,21 +92,24 @@ flag_apart event old next turns later pe flag moves heard round apart low right 
     flag_same (program_of old pe) (program_of next pe) old.round next.round (asked_by turns pe) (asked_by later pe) flag (sym program) round (asked_apart event turns later pe heard apart low) right
 
 -- where it is the same one
-pub keeps_one : (event : Event) (next : State) (later : List Turn) (able able_next : Able) → able.round ≡ next.round → able_next.round ≡ able.round →
+pub keeps_one : (event : Event) (next : State) (later : List Turn) (able able_next : Able) → able.round ≡ next.round → able_next.round ≡ next.round →
     IsRenewed next later event.pe.0 able.flags able_next.flags → KeepsAble event next later able able_next
-keeps_one event next later able able_next round kept renewed old turns are heard steps =
+keeps_one event next later able able_next same round renewed =
     record {
-      current = kept ∙ round;
-      count = renewed.count ∙ are.count ∙ sym heard.count;
-      each = λ pe flag at. by_place pe flag (event.pe.0 == pe) refl at;
+      right = λ old turns are heard steps. record {
+        current = round;
+        count = renewed.count ∙ are.count ∙ sym heard.count;
+        each = λ pe flag at. by_place old turns are heard steps pe flag (event.pe.0 == pe) refl at;
+      };
     }
   where
-    by_place : (pe : ℕ) (flag : Bool) (b : Bool) → (event.pe.0 == pe) ≡ b → slice_get able_next.flags pe ≡ Some flag → IsFlag next later pe flag
-    by_place pe flag true e at =
+    by_place : (old : State) (turns : List Turn) → AreAble old turns able → AreHeard event turns later → step service_limits old event ≡ Some next →
+        (pe : ℕ) (flag : Bool) (b : Bool) → (event.pe.0 == pe) ≡ b → slice_get able_next.flags pe ≡ Some flag → IsFlag next later pe flag
+    by_place old turns are heard steps pe flag true e at =
         let here : event.pe.0 ≡ pe = eqb-true event.pe.0 pe e in
         subst (λ k. IsFlag next later k flag) here (renewed.here flag (subst (λ k. slice_get able_next.flags k ≡ Some flag) (sym here) at))
-    by_place pe flag false e at =
+    by_place old turns are heard steps pe flag false e at =
         let was = renewed.others pe flag (differ event.pe.0 pe e) at in
         let low : pe < length able.flags = slice_get_within able.flags pe flag was in
         let count = are.count in
-        flag_apart event old next turns later pe flag (step_moves service_limits old next event steps) heard (sym are.current ∙ round) e (omega (arith, low, count)) (are.each pe flag was)
+        flag_apart event old next turns later pe flag (step_moves service_limits old next event steps) heard (sym are.current ∙ same) e (omega (arith, low, count)) (are.each pe flag was)

@@ -57,7 +57,8 @@ acting player =
 
 -- the flags of the programs
 
--- the flag tells whether the next event of a program may come, if it is there, in every state with that program and this round
+-- The flag tells whether the next event of a program may come, in every state with that program and this round. It is false
+-- where there is no such program.
 abbrev pub TellsNext : Option ProgramState → ℕ → Option Call → Bool → Type 0
 TellsNext None round asked flag = flag ≡ false
 TellsNext (Some p) round asked flag = TellsEvent round p asked flag
@@ -171,10 +172,9 @@ Follows ready event next ready_next =
     (old : State) → AreReady old ready → IsTidy old → step service_limits old event ≡ Some next → AreReady next ready_next
 
 -- the flags are right after a step, if they were so before it
-abbrev pub KeepsAble : Event → State → List Turn → Able → Able → Type 0
-KeepsAble event next turns_next able able_next =
-    (old : State) (turns : List Turn) → AreAble old turns able → AreHeard event turns turns_next → step service_limits old event ≡ Some next →
-    AreAble next turns_next able_next
+pub record KeepsAble (event : Event) (next : State) (turns_next : List Turn) (able able_next : Able) : Type 0 where
+  pub right : (old : State) (turns : List Turn) → AreAble old turns able → AreHeard event turns turns_next → step service_limits old event ≡ Some next →
+      AreAble next turns_next able_next
 
 -- the player after an event
 pub record Makes (old : Player) (event : Event) (new : Player) : Type 0 where

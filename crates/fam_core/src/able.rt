@@ -67,6 +67,7 @@ impl Able {
     }
 
     /// Keeps the flags right after an event: all are set anew where the round is another one, and else that of its program.
+    #[tactic(auto, using(crate::proofs::Renewing::keeps_one, crate::proofs::Renewing::keeps_all))]
     pub fn follow(&mut self, machine: &Machine, turns: &Sequence<Turn>, event: &Event)
         requires { length self.old.flags ≤ 64 }
         ensures { KeepsAble event.now machine.now turns.now self.old self.new }

@@ -1,6 +1,6 @@
 //! Who may act.
 
-ghost use Rattle.std.specs.Prelude.{◌≡◌, ◌≤◌, ◌++◌, filter, is_some, length, map, OnOk};
+ghost use Rattle.std.specs.Prelude.{◌≡◌, ◌≤◌, ◌++◌, filter, length, map, OnOk};
 ghost use Rattle.fam_model.specs.Lists.{numbers_below};
 ghost use Rattle.fam_schedule.specs.Schedule as schedule;
 ghost use Rattle.ready_lists.specs.Lists.{busy_stripes};
