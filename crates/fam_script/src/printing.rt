@@ -8,10 +8,9 @@ ghost use Rattle.fam_script.specs.Spaced.{spaced};
 
 /// Appends a format to a text.
 macro_rules! push {
-    ($text:ident, $($format:tt)+) => {{
-        let printed = format!(in *$text.allocator(); $($format)+)?;
-        $crate::printing::words::push_string($text, printed)
-    }};
+    ($text:ident, $($format:tt)+) => {
+        $crate::printing::words::push_format($text, format_args!($($format)+))
+    };
 }
 
 mod calls;
@@ -23,7 +22,7 @@ use data_calls::word_of_width;
 use fam_base::{Bytes, NoMemory, Sequence};
 use fam_model::{Call, Line, Width};
 use std::alloc::{AllocError, Global};
-pub use words::{hex_word, list_word, push_mode, push_string, push_text};
+pub use words::{push_format, push_hex, push_list, push_mode, push_text};
 
 /// The text of a call; none for leaving.
 pub fn statement(alloc: Global, call: &Call) -> Result<Bytes, NoMemory>

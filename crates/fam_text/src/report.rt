@@ -7,10 +7,9 @@ ghost use Rattle.fam_model.specs.ReportText.{report_text};
 
 /// Appends a format to a text.
 macro_rules! push {
-    ($text:ident, $($format:tt)+) => {{
-        let printed = format!(in *$text.allocator(); $($format)+)?;
-        fam_script::printing::push_string($text, printed)
-    }};
+    ($text:ident, $($format:tt)+) => {
+        fam_script::printing::push_format($text, format_args!($($format)+))
+    };
 }
 
 mod events;

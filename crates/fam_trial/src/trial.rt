@@ -9,7 +9,7 @@ use crate::printing::end_line;
 use fam_base::NoMemory;
 use fam_machine::Machine;
 use fam_model::{Event, Reply, ReplyLine};
-use fam_script::printing::push_string;
+use fam_script::printing::push_format;
 use std::alloc::{AllocError, Global};
 
 /// Whether the line tells of a refusal.
@@ -75,24 +75,21 @@ fn memory_sum(machine: &Machine) -> u64
 fn push_run(text: &mut Vec<u8>, seed: u64, programs: u8, calls: u32) -> Result<(), AllocError>
     ensures { OnOk result (text.new.items ≡ text.old.items ++ spaced (trial.run_words seed programs calls)) }
 {
-    let words = format!(in *text.allocator(); " trial {seed} {programs} {calls}")?;
-    push_string(text, words)
+    push_format(text, format_args!(" trial {seed} {programs} {calls}"))
 }
 
 /// Appends the words on events, and on what was served.
 fn push_served(text: &mut Vec<u8>, events: usize, served: usize) -> Result<(), AllocError>
     ensures { OnOk result (text.new.items ≡ text.old.items ++ spaced (trial.served_words events served)) }
 {
-    let words = format!(in *text.allocator(); " events {events} ok {served}")?;
-    push_string(text, words)
+    push_format(text, format_args!(" events {events} ok {served}"))
 }
 
 /// Appends the words on what was refused, and on memory.
 fn push_refused(text: &mut Vec<u8>, refused: usize, sum: u64) -> Result<(), AllocError>
     ensures { OnOk result (text.new.items ≡ text.old.items ++ spaced (trial.refused_words refused sum)) }
 {
-    let words = format!(in *text.allocator(); " refused {refused} sum {sum}")?;
-    push_string(text, words)
+    push_format(text, format_args!(" refused {refused} sum {sum}"))
 }
 
 /// The line of a run of a made script: its history, the lines of its replies, and the machine after it. Its numbers are the

@@ -3,9 +3,10 @@
 ghost use Rattle.std.specs.Prelude.{◌≡◌, ◌++◌, ◌∷◌, OnOk, true};
 ghost use Rattle.fam_model.specs.declared.call.DataOp.TheVariants as data_op;
 ghost use Rattle.fam_model.specs.CallText.{argument_words, data_words, op_word, verb, width_word};
+ghost use Rattle.fam_model.specs.Words.{hex_text, list_text};
 ghost use Rattle.fam_script.specs.Spaced.{spaced};
 
-use super::words::{hex_word, list_word, push_text};
+use super::words::{push_hex, push_list, push_text};
 use fam_base::{Bytes, Places};
 use fam_model::{DataOp, Op, Width};
 use std::alloc::AllocError;
@@ -101,9 +102,9 @@ fn push_put(
 ) -> Result<(), AllocError>
     ensures { OnOk result (text.new.items ≡ text.old.items ++ spaced (data_words context (data_op.Put item offset bytes.now) blocking)) }
 {
-    let hex = hex_word(*text.allocator(), bytes.as_slice())?;
     push_verb(text, "put", blocking)?;
-    push!(text, " c{context} i{item} {offset} {hex}")?;
+    push!(text, " c{context} i{item} {offset} ")?;
+    push_hex(text, bytes.as_slice())?;
     Ok(())
 }
 
@@ -121,10 +122,10 @@ fn push_scatter(
 ) -> Result<(), AllocError>
     ensures { OnOk result (text.new.items ≡ text.old.items ++ spaced (data_words context (data_op.Scatter item first stride size count bytes.now) blocking)) }
 {
-    let hex = hex_word(*text.allocator(), bytes.as_slice())?;
     push_verb(text, "scatter", blocking)?;
     push!(text, " c{context} i{item} {first} {stride}")?;
-    push!(text, " {size} {count} {hex}")?;
+    push!(text, " {size} {count} ")?;
+    push_hex(text, bytes.as_slice())?;
     Ok(())
 }
 
@@ -139,9 +140,20 @@ fn push_gather_index(
 ) -> Result<(), AllocError>
     ensures { OnOk result (text.new.items ≡ text.old.items ++ spaced (data_words context (data_op.GatherIndex item size places.now) blocking)) }
 {
-    let list = list_word(*text.allocator(), places.as_slice())?;
     push_verb(text, "gather-index", blocking)?;
-    push!(text, " c{context} i{item} {size} {list}")?;
+    push!(text, " c{context} i{item} {size} ")?;
+    push_list(text, places.as_slice())?;
+    Ok(())
+}
+
+/// Appends places and bytes with a space between them.
+#[tactic(auto, using(crate::proofs::Joined::texts))]
+fn push_scattered(text: &mut Vec<u8>, places: &Places, bytes: &Bytes) -> Result<(), AllocError>
+    ensures { OnOk result (text.new.items ≡ text.old.items ++ (list_text places.now ++ 32 ∷ hex_text bytes.now)) }
+{
+    push_list(text, places.as_slice())?;
+    push_text(text, " ")?;
+    push_hex(text, bytes.as_slice())?;
     Ok(())
 }
 
@@ -157,10 +169,9 @@ fn push_scatter_index(
 ) -> Result<(), AllocError>
     ensures { OnOk result (text.new.items ≡ text.old.items ++ spaced (data_words context (data_op.ScatterIndex item size places.now bytes.now) blocking)) }
 {
-    let list = list_word(*text.allocator(), places.as_slice())?;
-    let hex = hex_word(*text.allocator(), bytes.as_slice())?;
     push_verb(text, "scatter-index", blocking)?;
-    push!(text, " c{context} i{item} {size} {list} {hex}")?;
+    push!(text, " c{context} i{item} {size} ")?;
+    push_scattered(text, places, bytes)?;
     Ok(())
 }
 

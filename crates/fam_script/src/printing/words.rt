@@ -1,13 +1,15 @@
 //! The words that several lines have.
 
-ghost use Rattle.std.specs.Prelude.{◌≡◌, ◌++◌, ◌∷◌, IfOk, OnOk, string_bytes};
+ghost use Rattle.std.specs.Prelude.{◌≡◌, ◌++◌, ◌∷◌, IfSome, OnOk};
 ghost use Rattle.std.specs.List.{flat_map};
 ghost use Rattle.std.specs.Fmt.{decimal};
+ghost use Rattle.hex.specs.Hex.{encode_lower};
 ghost use Rattle.fam_model.specs.Words.{hex_text, list_text, mode_text};
 
 use fam_base::Mode;
-use std::alloc::{AllocError, Global};
-use std::fmt::Write;
+use std::alloc::AllocError;
+use std::fmt::Display;
+use std::io::Write;
 
 /// Appends a text.
 pub fn push_text(text: &mut Vec<u8>, words: &str) -> Result<(), AllocError>
@@ -16,45 +18,63 @@ pub fn push_text(text: &mut Vec<u8>, words: &str) -> Result<(), AllocError>
     text.extend_from_slice(words.as_bytes())
 }
 
-/// Appends a text that was made for this.
-pub fn push_string(text: &mut Vec<u8>, words: String) -> Result<(), AllocError>
-    ensures { OnOk result (text.new.items ≡ text.old.items ++ string_bytes words) }
+/// Appends a format.
+pub fn push_format<D: Display + Drop>(text: &mut Vec<u8>, words: D) -> Result<(), AllocError>
+    ensures { OnOk result (IfSome (D.output words) (λ bytes. text.new.items ≡ text.old.items ++ bytes)) }
 {
-    text.extend_from_slice(words.as_bytes())
+    match text.write_fmt(words) {
+        Ok(()) => Ok(()),
+        Err(_) => Err(AllocError),
+    }
 }
 
-/// Bytes as hexadecimal digits.
-pub fn hex_word(alloc: Global, bytes: &[u8]) -> Result<String, AllocError>
-    ensures { IfOk result (λ word. string_bytes word ≡ hex_text bytes.now) }
+/// Appends two digits for each byte.
+fn push_digits(text: &mut Vec<u8>, bytes: &[u8]) -> Result<(), AllocError>
+    ensures { OnOk result (text.new.items ≡ text.old.items ++ encode_lower bytes.now) }
+{
+    let start = text.len();
+    let Some(end) = bytes.len().checked_mul(2).and_then(|more| more.checked_add(start)) else {
+        return Err(AllocError);
+    };
+    text.resize(end, 0)?;
+    let (_, digits) = text.as_mut_slice().split_at_mut(start);
+    match hex::encode_to_slice(bytes, digits) {
+        Ok(()) => Ok(()),
+        Err(_) => unreachable!(),
+    }
+}
+
+/// Appends bytes as hexadecimal digits.
+pub fn push_hex(text: &mut Vec<u8>, bytes: &[u8]) -> Result<(), AllocError>
+    ensures { OnOk result (text.new.items ≡ text.old.items ++ hex_text bytes.now) }
 {
     match bytes {
-        [] => String::from_str(alloc, "-"),
-        _ => hex::encode(alloc, bytes),
+        [] => push_text(text, "-"),
+        _ => push_digits(text, bytes),
     }
 }
 
 /// Appends numbers with a comma in front of each.
 #[tactic(auto, using(crate::proofs::Joined::lists))]
-fn push_others(word: &mut String, others: &[u64]) -> Result<(), AllocError>
-    ensures { OnOk result (string_bytes word.new ≡ string_bytes word.old ++ flat_map (λ number. 44 ∷ decimal number) others.now) }
+fn push_others(text: &mut Vec<u8>, others: &[u64]) -> Result<(), AllocError>
+    ensures { OnOk result (text.new.items ≡ text.old.items ++ flat_map (λ number. 44 ∷ decimal number) others.now) }
 {
     for number in others {
-        write!(word, ",{number}")?;
+        push!(text, ",{number}")?;
     }
     Ok(())
 }
 
-/// Numbers with commas between them.
+/// Appends numbers with commas between them.
 #[tactic(auto, using(crate::proofs::Joined::lists))]
-pub fn list_word(alloc: Global, numbers: &[u64]) -> Result<String, AllocError>
-    ensures { IfOk result (λ word. string_bytes word ≡ list_text numbers.now) }
+pub fn push_list(text: &mut Vec<u8>, numbers: &[u64]) -> Result<(), AllocError>
+    ensures { OnOk result (text.new.items ≡ text.old.items ++ list_text numbers.now) }
 {
     let Some((first, others)) = numbers.split_first() else {
-        return String::from_str(alloc, "-");
+        return push_text(text, "-");
     };
-    let mut word = first.to_string(alloc)?;
-    push_others(&mut word, others)?;
-    Ok(word)
+    push!(text, "{first}")?;
+    push_others(text, others)
 }
 
 /// Appends a mode behind a space.

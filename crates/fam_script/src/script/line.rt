@@ -42,6 +42,7 @@ fn is_text_of(alloc: Global, line: &Line, text: &[u8]) -> Result<bool, NoMemory>
     ensures { IfOk result (λ same. same ≡ bytes_eq (line_text line.now) text.now) }
 {
     let mut printed = Vec::new(alloc);
+    printed.reserve(text.len().saturating_add(1))?;
     push_line(&mut printed, line)?;
     Ok(without_space(printed.as_slice()) == text)
 }

@@ -11,7 +11,7 @@ ghost use Rattle.fam_script.specs.Spaced.{spaced};
 use super::words::push_call_name;
 use fam_base::FamError;
 use fam_model::{ItemInfo, OpResult, PieceAnswer, RegionInfo, Reply, ReplyLine};
-use fam_script::printing::{hex_word, push_mode, push_text};
+use fam_script::printing::{push_hex, push_mode, push_text};
 use std::alloc::AllocError;
 
 /// Appends an error.
@@ -41,8 +41,8 @@ pub fn push_failure(text: &mut Vec<u8>, error: &FamError) -> Result<(), AllocErr
 pub fn push_bytes(text: &mut Vec<u8>, bytes: &[u8]) -> Result<(), AllocError>
     ensures { OnOk result (text.new.items ≡ text.old.items ++ spaced (reply_words (reply.Bytes bytes.now))) }
 {
-    let hex = hex_word(*text.allocator(), bytes)?;
-    push!(text, " ok {hex}")
+    push_text(text, " ok ")?;
+    push_hex(text, bytes)
 }
 
 /// Appends the answer of a piece.
@@ -74,8 +74,8 @@ fn push_failed_result(text: &mut Vec<u8>, call: u64, error: &FamError) -> Result
 fn push_read_result(text: &mut Vec<u8>, call: u64, bytes: &[u8]) -> Result<(), AllocError>
     ensures { OnOk result (text.new.items ≡ text.old.items ++ 32 ∷ result_word (record { call = call; answer = answer.Data bytes.now })) }
 {
-    let hex = hex_word(*text.allocator(), bytes)?;
-    push!(text, " {call}=ok/{hex}")
+    push!(text, " {call}=ok/")?;
+    push_hex(text, bytes)
 }
 
 /// Appends the result of an operation, as one word.

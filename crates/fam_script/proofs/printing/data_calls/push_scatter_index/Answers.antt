@@ -3,5 +3,4 @@ use Rattle.fam_script.proofs.printing.data_calls.push_scatter_index.Goals as goa
 
 pub returns : goal.returns
 returns c =
-    rw (c.in_ok-push_string.ensures, c.in_ok-printed.ensures.ok, c.in_ok-hex.ensures, c.as_slice-2.ensures, c.in_ok-list.ensures, c.as_slice.ensures, c.in_ok-push_verb.ensures)
-    (simp append_assoc)
+    rw (c.in_ok-push_scattered.ensures, c.in_ok-push_format.ensures, c.in_ok-push_verb.ensures) (simp append_assoc)

@@ -7,5 +7,5 @@ use Rattle.fam_text.proofs.report.events.push_piece.Goals as goal
 
 pub returns : goal.returns
 returns c =
-    rw (c.in_ok-push_piece_answer.ensures, c.in_ok-push_string.ensures, c.in_ok-printed.ensures.ok)
+    rw (c.in_ok-push_piece_answer.ensures, c.in_ok-push_format.ensures)
     (told c.args.text.now.items (codes "piece" ∷ decimal c.args.piece ∷ []) (answer_words c.args.answer.now))

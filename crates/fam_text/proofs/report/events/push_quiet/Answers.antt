@@ -7,5 +7,5 @@ use Rattle.fam_text.proofs.report.events.push_quiet.Goals as goal
 
 pub returns : goal.returns
 returns c =
-    rw (c.in_ok-push_answered.ensures, c.in_ok-push_string.ensures, c.in_ok-printed.ensures.ok)
+    rw (c.in_ok-push_answered.ensures, c.in_ok-push_format.ensures)
     (told c.args.text.now.items (codes "quiet" ∷ context_text c.args.context ∷ []) (reply_words c.args.reply.now))

@@ -9,7 +9,7 @@ use Rattle.fam_text.proofs.report.rows.push_opening.Goals as goal
 
 pub returns : goal.returns
 returns c =
-    rw (c.in_ok-push_items.ensures, c.as_slice-2.ensures, c.in_ok-push_regions.ensures, c.as_slice.ensures, c.in_ok-push_text.ensures, c.in_ok-push_string.ensures, c.in_ok-printed.ensures.ok)
+    rw (c.in_ok-push_items.ensures, c.as_slice-2.ensures, c.in_ok-push_regions.ensures, c.as_slice.ensures, c.in_ok-push_text.ensures, c.in_ok-push_format.ensures)
     (opened c.args.text.now.items
     (words_text (codes "opening" ∷ decimal c.args.rows.now.next_region ∷ decimal c.args.rows.now.next_item ∷ []))
     (map region_text (filter (λ row. not (region_number row == 0)) c.args.rows.now.regions))

@@ -3,5 +3,5 @@ use Rattle.fam_text.proofs.report.rows.push_region.Goals as goal
 
 pub returns : goal.returns
 returns c =
-    rw (c.in_ok-extend_from_slice.ensures.items, c.as_slice.ensures, c.in_ok-push_string-2.ensures, c.in_ok-printed-2.ensures.ok, c.in_ok-push_mode.ensures, c.in_ok-push_string.ensures, c.in_ok-printed.ensures.ok)
+    rw (c.in_ok-extend_from_slice.ensures.items, c.as_slice.ensures, c.in_ok-push_format-2.ensures, c.in_ok-push_mode.ensures, c.in_ok-push_format.ensures)
     (simp append_assoc)
