@@ -1,20 +1,34 @@
 -- Bytes cut at the first separator.
-use Rattle.std.proofs.Common.{◌≡◌, ℕ, ◌+◌, ◌-◌, ◌≤◌, Bool, true, false, cond, List, [], ◌∷◌, length, take, drop, Option, Some, None, refl, sym, ap, subst, ◌∙◌, arith, length-drop}
+use Rattle.std.proofs.Common.{◌≡◌, ℕ, ◌+◌, ◌-◌, ◌≤◌, Bool, true, false, cond, List, [], ◌∷◌, length, get_or, take, drop, Option, Some, None, refl, sym, ap, subst, ◌∙◌, arith, length-drop}
 use Rattle.std.specs.Prelude.{◌==◌, nat_lt, position}
 use Rattle.std.specs.List.{slice_split, onto_first, position_or_len}
-use Rattle.std.proofs.lemmas.Bool.{ltb-true, ltb-false}
+use Rattle.std.proofs.lemmas.Bool.{ltb-true, ltb-false, cond_above, cond_below}
 use Rattle.std.proofs.lemmas.List.Splits.{slice_split_none, slice_split_first}
-use Rattle.std.proofs.lemmas.List.Sums.{fails_before_first}
+use Rattle.std.proofs.lemmas.List.Sums.{fails_before_first, position_or_len_is}
 use Rattle.std.proofs.lemmas.List.{take_all}
+use Rattle.memchr.specs.Find.{IsFirst, Passes}
 use Rattle.fam_script.specs.Reading.{parts, one_of}
 use Rattle.fam_script.proofs.Tests.{some_is}
 
 abbrev some : ℕ → Option ℕ
 some n = Some n
 
+fails : (b : Bool) → (b ≡ true → ⊥) → b ≡ false
+fails true never = absurd (never refl)
+fails false never = refl
+
 module _ (p : ℕ → Bool) (xs : List ℕ) where
   abbrev Cut : ℕ → Type 0
   Cut at = slice_split p xs ≡ take at xs ∷ slice_split p (drop (at + 1) xs)
+
+  -- a search for the separator finds its first place
+  pub first_place : (r : Option ℕ) → IsFirst (Passes p xs) 0 (length xs) r → r ≡ position p xs
+  first_place None none =
+      let all : position_or_len p xs ≡ length xs = position_or_len_is p xs (length xs) 0 (omega arith) (λ k low. fails (p (get_or xs k 0)) (none k (omega arith) low)) (λ low. absurd (omega (arith, low))) in
+      cond_above (position_or_len p xs) (length xs) (some (position_or_len p xs)) None None (omega (arith, all)) refl
+  first_place (Some k) (found, passes) =
+      let at : position_or_len p xs ≡ k = position_or_len_is p xs k 0 (omega (arith, found.high)) (λ j low. fails (p (get_or xs j 0)) (found.before j (omega arith) low)) (λ _. passes) in
+      sym (ap some at) ∙ cond_below (position_or_len p xs) (length xs) (some (position_or_len p xs)) None (omega (arith, at, found.high))
 
   cut_some : (at : ℕ) → position p xs ≡ Some at → Cut at
   cut_some at e = by_test (nat_lt (position_or_len p xs) (length xs)) refl e

@@ -1,14 +1,18 @@
 -- Numbers read from their decimal digits.
-use Rattle.std.proofs.Common.{◌≡◌, ℕ, ◌<◌, ◌≤◌, ◌^◌, Bool, true, false, List, Option, Some, None, Result, Ok, refl, sym, ap, subst, ◌∙◌, lit≤, lt_of_lt_of_le}
-use Rattle.std.specs.Prelude.{nat_lt, ◌&&◌, ◌≢◌, IfSome, IfNone}
+use Rattle.std.proofs.Common.{◌≡◌, ℕ, ◌<◌, ◌≤◌, ◌^◌, Bool, true, false, List, [], ◌∷◌, Option, Some, None, Result, Ok, refl, sym, ap, subst, ◌∙◌, lit≤, lt_of_lt_of_le, arith, rules}
+use Rattle.std.specs.Prelude.{◌+◌, ◌-◌, ◌*◌, length, slice_index, nat_lt, ◌&&◌, ◌≢◌, IfSome, IfNone}
+use Rattle.std.specs.List.{list_all}
 use Rattle.std.specs.Str.{bytes_eq, IsUtf8}
 use Rattle.std.specs.Str.Parse.{digits_value, ParsesUnsigned}
 use Rattle.std.specs.Fmt.{decimal}
 use Rattle.std.proofs.lemmas.Bool.{ltb-true, lt-ltb}
-use Rattle.std.proofs.lemmas.Fmt.{decimal_is_IsNumeral_wide, parse-decimal_wide, IsAscii-decimal_wide}
+use Rattle.std.proofs.lemmas.Str.Parse.{IsNumeralModel, numerals_by_fold, digits_value_short}
+use Rattle.std.proofs.lemmas.Fmt.{decimal-digits_value, decimal_is_IsNumeral_wide, parse-decimal_wide, IsAscii-decimal_wide}
 use Rattle.std.proofs.lemmas.Str.{IsUtf8-from_ascii}
 use Rattle.fam_model.specs.Lists.{when}
-use Rattle.fam_script.specs.Reading.{number_of}
+use Rattle.std.specs.Char.{is_ascii_digit}
+use Rattle.fam_script.specs.Digits.{IsShort, number_after}
+use Rattle.fam_script.specs.Reading.{number_of, wide_of}
 use Rattle.fam_script.proofs.Tests.{and_left, and_right, and_both, when_true, same_bytes, bytes_same}
 
 abbrev number : ℕ → Option ℕ
@@ -87,3 +91,36 @@ number_only word = by_answer (number_of word) refl
     by_answer : (o : Option ℕ) → number_of word ≡ o → IfNone o ((n : ℕ) → n < 2 ^ 64 → word ≢ decimal n)
     by_answer None e = λ n low same. (let found : None ≡ Some n = sym e ∙ ap number_of same ∙ number_back n low in cc)
     by_answer (Some m) e = tt
+
+-- a few digits
+
+own : IsNumeralModel (λ ds. list_all is_ascii_digit ds ≡ true) (number_after 0)
+own = numerals_by_fold _ (search rules) number_after (search rules)
+
+ten_to_19 : 10 ^ 19 ≤ 2 ^ 64
+ten_to_19 = lit≤ tt
+
+pub short_low : (word : List ℕ) → IsShort word → number_after 0 word < 2 ^ 64
+short_low word is = lt_of_lt_of_le (digits_value_short own word 19 is.digits is.few) ten_to_19
+
+-- a short word is read as its digits say
+pub short_read : (word : List ℕ) → IsShort word → number (number_after 0 word) ≡ number_of word
+short_read word is =
+    let low = short_low word is in
+    read_some 64 few_64 word (number_after 0 word) low (decimal-digits_value own word is.digits is.some is.first low)
+
+-- digits that follow make the number no smaller
+pub no_smaller : (n : ℕ) (ds : List ℕ) → n ≤ number_after n ds
+no_smaller n [] = omega arith
+no_smaller n (d ∷ ds) = omega (arith, no_smaller (n * 10 + (d - 48)) ds)
+
+-- the number with the next digit is no larger than the whole number
+pub next_low : (limit n : ℕ) (ds : List ℕ) → 1 ≤ length ds → number_after n ds < limit → n * 10 + (slice_index ds 0 - 48) < limit
+next_low limit n [] some low = absurd (omega (arith, some))
+next_low limit n (d ∷ ds) some low = omega (arith, no_smaller (n * 10 + (d - 48)) ds, low)
+
+-- a number of 64 bits is one of 128
+pub wide_from : (word : List ℕ) (n : ℕ) → number n ≡ number_of word → number n ≡ wide_of word
+wide_from word n e =
+    let is : (n < 2 ^ 64) × (word ≡ decimal n) = subst (λ (o : Option ℕ). IfSome o (λ m. (m < 2 ^ 64) × (word ≡ decimal m))) (sym e) (number_is word) in
+    read_some 128 few_128 word n (lt_of_lt_of_le is.0 (lit≤ tt)) (sym is.1)

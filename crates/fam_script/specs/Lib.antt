@@ -1,4 +1,5 @@
 pub mod BadLine
+pub mod Digits
 pub mod Lines
 pub mod Machine
 pub mod Parsing

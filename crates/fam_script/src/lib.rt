@@ -7,4 +7,4 @@ mod script;
 
 pub use number::number_in;
 pub use printing::statement;
-pub use script::{ScriptFault, parse, parse_line};
+pub use script::{ScriptFault, cut, parse, parse_line, word};

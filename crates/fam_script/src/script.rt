@@ -13,7 +13,7 @@ use std::alloc::Global;
 use thiserror::Error;
 
 mod contexts;
-mod cut;
+pub mod cut;
 mod frames;
 mod lawful;
 mod line;
@@ -25,7 +25,7 @@ mod reading;
 mod slots;
 mod table;
 mod unfinished;
-mod word;
+pub mod word;
 
 pub use word::number;
 

@@ -3,13 +3,15 @@
 ghost use Rattle.std.specs.Prelude.{◌≡◌, ◌==◌, ◌+◌, ◌≤◌, [], ◌∷◌, length, position, MatchOption, IfSome};
 ghost use Rattle.fam_script.specs.Reading.{parts, one_of, two_of, three_of, four_of, five_of, six_of, seven_of};
 
+use memchr::memchr;
+
 /// A word.
 type Word<'a> = &'a [u8];
 
 fn place(bytes: &[u8], separator: u8) -> Option<usize>
     ensures { result ≡ position (λ b. b == separator) bytes.now }
 {
-    bytes.iter().position(|b| *b == separator)
+    memchr(separator, bytes)
 }
 
 /// What stands before the first separator and what stands behind it.

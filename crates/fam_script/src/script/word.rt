@@ -1,6 +1,10 @@
 //! Words of a line.
 
-ghost use Rattle.std.specs.Prelude.{◌≡◌, IfOk};
+ghost use Rattle.std.specs.Prelude.{◌≡◌, ◌<◌, ◌^◌, true, IfOk};
+ghost use Rattle.std.specs.Bool.{OnTrue};
+ghost use Rattle.std.specs.List.{list_all};
+ghost use Rattle.std.specs.Char.{is_ascii_digit};
+ghost use Rattle.fam_script.specs.Digits.{IsShort, number_after};
 ghost use Rattle.fam_script.specs.Reading as words;
 
 use crate::script::cut::cut;
@@ -9,8 +13,52 @@ use hex::FromHexError;
 use itoa::Buffer;
 use std::alloc::Global;
 
+/// Whether these are digits.
+fn are_digits(word: &[u8]) -> bool
+    ensures { result ≡ list_all is_ascii_digit word.now }
+{
+    word.iter().all(|byte| byte.is_ascii_digit())
+}
+
+/// Whether these are at most 19 digits, of which the first is no zero but in the number 0.
+fn is_short(word: &[u8]) -> bool
+    ensures { OnTrue result (IsShort word.now) }
+{
+    match word {
+        [] | [b'0', _, ..] => false,
+        _ => word.len() <= 19 && are_digits(word),
+    }
+}
+
+/// The number that digits write.
+fn value(word: &[u8]) -> u64
+    requires digits { list_all is_ascii_digit word.now ≡ true }
+    requires low { number_after 0 word.now < 2 ^ 64 }
+    ensures { result ≡ number_after 0 word.now }
+{
+    let mut rest = word;
+    let mut value = 0;
+    while let [first, others @ ..] = rest {
+        value = value * 10 + u64::from(*first - b'0');
+        rest = others;
+    }
+    value
+}
+
 /// The number whose decimal digits these are, with no sign and no leading zero.
+#[tactic(auto, using(crate::proofs::Numbers::short_read, crate::proofs::Numbers::short_low))]
 pub fn number(word: &[u8]) -> Option<u64>
+    ensures { result ≡ words.number_of word.now }
+{
+    if is_short(word) {
+        Some(value(word))
+    } else {
+        long_number(word)
+    }
+}
+
+/// The same, however long the word is.
+fn long_number(word: &[u8]) -> Option<u64>
     ensures { result ≡ words.number_of word.now }
 {
     let Ok(text) = str::from_utf8(word) else {
@@ -60,7 +108,18 @@ pub fn slot(word: &[u8]) -> Option<u8>
 }
 
 /// A number of 128 bits.
+#[tactic(auto, using(crate::proofs::Numbers::wide_from))]
 fn wide(word: &[u8]) -> Option<u128>
+    ensures { result ≡ words.wide_of word.now }
+{
+    match number(word) {
+        Some(value) => Some(u128::from(value)),
+        None => long_wide(word),
+    }
+}
+
+/// The same, where it may have more than 64 bits.
+fn long_wide(word: &[u8]) -> Option<u128>
     ensures { result ≡ words.wide_of word.now }
 {
     let Ok(text) = str::from_utf8(word) else {

@@ -2,7 +2,7 @@ use Rattle.std.proofs.Common.{ℕ, List, sym, ap, ◌∙◌, arith}
 use Rattle.std.specs.Str.{bytes_eq}
 use Rattle.fam_script.proofs.Tests.{same_bytes}
 use Rattle.fam_script.proofs.Numbers.{few_128, read_some, no_text, not_parsed, not_printed}
-use Rattle.report_reader.proofs.word.wide.Goals as goal
+use Rattle.fam_script.proofs.script.word.long_wide.Goals as goal
 
 pub returns-in_default : goal.returns-in_default
 returns-in_default c = no_text 128 few_128 c.args.word.now c.in_default.ensures.cases.0
