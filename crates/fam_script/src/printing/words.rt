@@ -33,7 +33,11 @@ fn push_digits(text: &mut Vec<u8>, bytes: &[u8]) -> Result<(), AllocError>
     ensures { OnOk result (text.new.items ≡ text.old.items ++ encode_lower bytes.now) }
 {
     let start = text.len();
-    let Some(end) = bytes.len().checked_mul(2).and_then(|more| more.checked_add(start)) else {
+    let Some(end) = bytes
+        .len()
+        .checked_mul(2)
+        .and_then(|more| more.checked_add(start))
+    else {
         return Err(AllocError);
     };
     text.resize(end, 0)?;

@@ -1,4 +1,4 @@
-use Rattle.std.proofs.Common.{◌<◌, ◌^◌, ◌+◌, ◌-◌, ◌*◌, slice_index, arith}
+use Rattle.std.proofs.Common.{◌<◌, ◌^◌, arith}
 use Rattle.fam_script.specs.Digits.{number_after}
 use Rattle.fam_script.proofs.Numbers.{next_low}
 use Rattle.fam_script.proofs.script.word.value.Goals as goal
