@@ -1,5 +1,6 @@
 -- Texts that were appended in turn.
-use Rattle.std.proofs.Common.{◌≡◌, ℕ, List, [], ◌∷◌, ◌++◌, append_assoc, append-nil, refl, sym, ap, ◌∙◌, map}
+use Rattle.std.proofs.Common.{◌≡◌, ℕ, List, [], ◌∷◌, ◌++◌, Option, None, Some, append_assoc, append-nil, refl, sym, ap, ◌∙◌, map}
+use Rattle.std.specs.Prelude.{IfSome}
 use Rattle.std.specs.List.{join_with_byte, flat_map}
 use Rattle.std.specs.Fmt.{decimal}
 use Rattle.fam_script.specs.Spaced.{spaced}
@@ -38,3 +39,8 @@ list_text-cons n [] = sym (append-nil (decimal n))
 list_text-cons n (m ∷ ns) = ap (λ text. decimal n ++ (44 ∷ text)) (list_text-cons m ns)
 
 pub ruleset lists = (joined, nothing_joined, list_text-cons)
+
+-- what follows for the bytes that a format may have
+pub if_some : {A : Type 0} (o : Option A) (P Q : A → Type 0) → ((x : A) → P x → Q x) → IfSome o P → IfSome o Q
+if_some None P Q more told = tt
+if_some (Some x) P Q more told = more x told

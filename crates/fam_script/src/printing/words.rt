@@ -8,8 +8,8 @@ ghost use Rattle.fam_model.specs.Words.{hex_text, list_text, mode_text};
 
 use fam_base::Mode;
 use std::alloc::AllocError;
-use std::fmt::Display;
-use std::io::Write;
+use std::fmt;
+use std::fmt::{Display, Write};
 
 /// Appends a text.
 pub fn push_text(text: &mut Vec<u8>, words: &str) -> Result<(), AllocError>
@@ -18,11 +18,35 @@ pub fn push_text(text: &mut Vec<u8>, words: &str) -> Result<(), AllocError>
     text.extend_from_slice(words.as_bytes())
 }
 
+/// A text to which a format is appended.
+#[derive(Drop)]
+struct Appender<'a> {
+    text: &'a mut Vec<u8>,
+}
+
+impl fmt::Write for Appender<'_> {
+    ghost use Rattle.std.specs.Prelude.{◌≡◌, ◌++◌};
+
+    ghost write_str_gives = { λ s bytes t. (t.text.ghost_name ≡ s.text.ghost_name) × (t.text.now.items ≡ s.text.now.items ++ bytes) };
+
+    fn write_str(&mut self, words: &str) -> fmt::Result {
+        match self.text.extend_from_slice(words.as_bytes()) {
+            Ok(()) => Ok(()),
+            Err(_) => Err(fmt::Error),
+        }
+    }
+}
+
 /// Appends a format.
 pub fn push_format<D: Display + Drop>(text: &mut Vec<u8>, words: D) -> Result<(), AllocError>
     ensures { OnOk result (IfSome (D.output words) (λ bytes. text.new.items ≡ text.old.items ++ bytes)) }
 {
-    match text.write_fmt(words) {
+    let mut appender = Appender { text };
+    let written = appender.write_fmt(words);
+    let Appender { text } = appender;
+    // No effect at run time: the proof reads what the text holds from this use.
+    let _ = &*text;
+    match written {
         Ok(()) => Ok(()),
         Err(_) => Err(AllocError),
     }
